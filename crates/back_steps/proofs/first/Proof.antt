@@ -15,33 +15,33 @@ use Rattle.back_steps.proofs.BackStepLaws.{searched-off, part_length}
 use Rattle.back_steps.proofs.first.Statement.{statement}
 use Rattle.back_steps.proofs.first.Tie as tie
 
-abbrev invariant-loop : tie.invariant-loop
+abbrev invariant-loop : tie.invariant-loop-k
 invariant-loop letters at k₀ k = Searched (rounds letters) at k
 
-abbrev decreases-loop : tie.decreases-loop
+abbrev decreases-loop : tie.decreases-loop-k
 decreases-loop letters at k₀ k = 4 - k
 
-loop-holds : tie.Need-loop-init invariant-loop decreases-loop
+loop-holds : tie.Need-loop-k-init invariant-loop decreases-loop
 loop-holds c = searched-start _ _
 
-returns : tie.Need-returns invariant-loop decreases-loop
+returns : tie.Need-returns-then-to-from invariant-loop decreases-loop
 returns c =
     let iteration = c.before in
     let a = iteration.before.before.before.before.args in
-    let k = iteration.before.loop.k in
+    let k = iteration.before.loop-k.k in
     let n = length-rounds a.letters.now in
-    searched-off (rounds a.letters.now) a.cuts.at k (search rules)
+    searched-off (rounds a.letters.now) a.cuts.at-1 k (search rules)
     (λ rises within.
     ⊎_elim (λ w. omega (arith, w.taken))
-    (λ w. omega (arith, ltb-true (4 * length a.letters.now) (get_or a.cuts.at (k + 1) 0) w.1.taken)) c.if1.branch)
+    (λ w. omega (arith, ltb-true (4 * length a.letters.now) (get_or a.cuts.at-1 (k + 1) 0) w.1.taken)) c.if-to-from.branch)
 
 -- After the test the piece lies in the letters read cyclically
-module _ (c : tie.Else2 invariant-loop decreases-loop) where
+module _ (c : tie.Else-letters-to invariant-loop decreases-loop) where
   abbrev k : ℕ
-  k = c.before.before.before.loop.k
+  k = c.before.before.before.loop-k.k
 
   abbrev at : List ℕ
-  at = c.before.before.before.before.before.before.args.cuts.at
+  at = c.before.before.before.before.before.before.args.cuts.at-1
 
   abbrev letters : List ℕ
   letters = c.before.before.before.before.before.before.args.letters.now
@@ -50,42 +50,42 @@ module _ (c : tie.Else2 invariant-loop decreases-loop) where
   lies =
       record {
         short = c.before.before.before.before.before.before.requires;
-        rises = c.before.if1.false;
-        round = ltb-false _ _ c.if2.false;
+        rises = c.before.if-to-from.false;
+        round = ltb-false _ _ c.if-letters-to.false;
       }
 
-straight-for-requires : tie.Need-straight-for-requires invariant-loop decreases-loop
+straight-for-requires : tie.Need-straight_for-i-requires invariant-loop decreases-loop
 straight-for-requires c κs = lies c
 
 -- The search in one piece
-here : (c : tie.After-straight-for invariant-loop decreases-loop)
+here : (c : tie.After-straight_for-i invariant-loop decreases-loop)
     → InPiece (rounds (letters c.before)) (at c.before) (k c.before) (get_or (at c.before) (k c.before) 0)
-    (get_or (at c.before) (k c.before + 1) 0) c.straight-for.result
+    (get_or (at c.before) (k c.before + 1) 0) c.straight_for-i.result
 here c =
     let l = lies c.before in
     record {
-      searched = c.before.before.before.before.loop.invariant;
+      searched = c.before.before.before.before.loop-k.invariant;
       piece_lt = search rules;
       begins = refl;
       ends = refl;
       rises = l.rises;
       within = omega (arith, l.round, length-rounds (letters c.before));
-      stops = c.straight-for.ensures;
+      stops = c.straight_for-i.ensures;
     }
 
-add-t20 : tie.Need-overflow-add-t20 invariant-loop decreases-loop
+add-t20 : tie.Need-overflow_add-result invariant-loop decreases-loop
 add-t20 c =
     let l = lies c.before.before in
-    omega (arith, l.short, l.round, l.rises, c.if3.true)
+    omega (arith, l.short, l.round, l.rises, c.if-i-to.true)
 
-returns-2 : tie.Need-returns-2 invariant-loop decreases-loop
-returns-2 c = searched-found (here c.before) (rw (part_length (lies c.before.before)) c.if3.true)
+returns-2 : tie.Need-returns-then-i-to invariant-loop decreases-loop
+returns-2 c = searched-found (here c.before) (rw (part_length (lies c.before.before)) c.if-i-to.true)
 
-loop-again : tie.Need-loop-preserved invariant-loop decreases-loop
-loop-again c = searched-next (here c.before) (rw (part_length (lies c.before.before)) c.if3.false)
+loop-again : tie.Need-loop-k-preserved invariant-loop decreases-loop
+loop-again c = searched-next (here c.before) (rw (part_length (lies c.before.before)) c.if-i-to.false)
 
-returns-3 : tie.Need-returns-3 invariant-loop decreases-loop
-returns-3 c = searched-end c.before.loop.invariant c.loop-test.false
+returns-3 : tie.Need-returns invariant-loop decreases-loop
+returns-3 c = searched-end c.before.loop-k.invariant c.loop-k-test.false
 
 pub first_spec : {M : Type 1} → statement M
 first_spec =

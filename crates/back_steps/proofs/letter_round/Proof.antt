@@ -4,20 +4,20 @@ use Rattle.back_steps.proofs.BackStepLaws.{letter-once, letter-twice, letter-thr
 use Rattle.back_steps.proofs.letter_round.Statement.{statement}
 use Rattle.back_steps.proofs.letter_round.Tie as tie
 
-returns : tie.Need-returns
-returns c = letter-once _ _ c.before.if1.true
+returns : tie.Need-returns-then-i-n
+returns c = letter-once _ _ c.before.if-i-n.true
 
-returns-2 : tie.Need-returns-2
-returns-2 c = letter-twice _ _ c.before.before.if1.false c.before.if2.true
+returns-2 : tie.Need-returns-then-i-n-2
+returns-2 c = letter-twice _ _ c.before.before.if-i-n.false c.before.if-i-n-2.true
 
-returns-3 : tie.Need-returns-3
-returns-3 c = letter-thrice _ _ c.before.before.if2.false c.before.if3.true
+returns-3 : tie.Need-returns-then-i-n-3
+returns-3 c = letter-thrice _ _ c.before.before.if-i-n-2.false c.before.if-i-n-3.true
 
-returns-4 : tie.Need-returns-4
-returns-4 c = letter-fourth _ _ c.before.if3.false c.before.before.before.before.requires.1
+returns-4 : tie.Need-returns
+returns-4 c = letter-fourth _ _ c.before.if-i-n-3.false c.before.before.before.before.requires.1
 
-pub letter-round-spec : {M : Type 1} → statement M
-letter-round-spec =
+pub letter_round_spec : {M : Type 1} → statement M
+letter_round_spec =
     tie.close
     (tie.spec (λ c. search rules) returns (λ c. search rules) (λ c. search rules) returns-2 (λ c. search rules) (λ c. search rules)
     (λ c. search rules) (λ c. search rules) returns-3 (λ c. search rules) (λ c. search rules) (λ c. search rules) returns-4)

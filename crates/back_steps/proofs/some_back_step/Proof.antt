@@ -10,33 +10,33 @@ use Rattle.back_steps.proofs.BackStepLaws.{back-step-is, Passed, passed_start, p
 use Rattle.back_steps.proofs.some_back_step.Statement.{statement}
 use Rattle.back_steps.proofs.some_back_step.Tie as tie
 
-abbrev invariant-loop : tie.invariant-loop
+abbrev invariant-loop : tie.invariant-loop-i
 invariant-loop piece k f found₀ i₀ found i = (i ≤ length piece) × (found ≡ false → Passed piece k i)
 
-abbrev decreases-loop : tie.decreases-loop
+abbrev decreases-loop : tie.decreases-loop-i
 decreases-loop piece k f found₀ i₀ found i = length piece - i
 
-loop-holds : tie.Need-loop-init invariant-loop decreases-loop
+loop-holds : tie.Need-loop-i-init invariant-loop decreases-loop
 loop-holds c = (omega arith, λ e. passed_start _ _)
 
-loop-again : tie.Need-loop-preserved invariant-loop decreases-loop
+loop-again : tie.Need-loop-i-preserved invariant-loop decreases-loop
 loop-again c =
     let iteration = c.before.before.before.before in
     let at = iteration.before in
-    let f = at.before.pair-at.ensures in (
-      omega (arith, iteration.loop-test.true),
-      λ e. passed-next (at.loop.invariant.1 (or_left at.loop.found _ e)) iteration.loop-test.true (sym (back-step-is f _)
-          ∙ or_right at.loop.found _ e),
+    let f = at.before.pair_at-f.ensures in (
+      omega (arith, iteration.loop-i-test.true),
+      λ e. passed-next (at.loop-i.invariant.1 (or_left at.loop-i.found _ e)) iteration.loop-i-test.true (sym (back-step-is f _)
+          ∙ or_right at.loop-i.found _ e),
     )
 
 returns : tie.Need-returns invariant-loop decreases-loop
 returns c e =
-    let all : length c.before.before.before.before.args.piece.now ≡ c.before.loop.i =
-    omega (arith, c.before.loop.invariant.0, c.loop-test.false) in
-    all ∙ passed-end (c.before.loop.invariant.1 e) c.loop-test.false
+    let all : length c.before.before.before.before.args.piece.now ≡ c.before.loop-i.i =
+    omega (arith, c.before.loop-i.invariant.0, c.loop-i-test.false) in
+    all ∙ passed-end (c.before.loop-i.invariant.1 e) c.loop-i-test.false
 
-pub some-back-step-spec : {M : Type 1} → statement M
-some-back-step-spec =
+pub some_back_step_spec : {M : Type 1} → statement M
+some_back_step_spec =
     tie.close
     (tie.spec invariant-loop decreases-loop (λ c κs. search rules) loop-holds (λ c. search rules) (λ c. search rules) (λ c. search rules)
     (λ c. search rules) loop-again returns)

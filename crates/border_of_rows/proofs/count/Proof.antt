@@ -13,10 +13,10 @@ returns c =
     let a = down.before.before.before.args in
     omega (
       arith,
-      c.apart2.ensures.0,
-      c.before.before.before.apart.ensures.0,
-      down.steps3.ensures.0,
-      down.before.steps2.ensures.0,
+      c.apart-back.ensures.0,
+      c.before.before.before.apart-over.ensures.0,
+      down.steps-right.ensures.0,
+      down.before.steps-2.ensures.0,
       down.before.before.steps.ensures.0,
       fall-length (rows a.hi.now) a.b (a.t - 1 - a.b),
       round-length (rows a.lo.now) (rows a.hi.now) a.b a.t a.m down.before.before.before.requires.1,

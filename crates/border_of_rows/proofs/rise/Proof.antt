@@ -13,30 +13,30 @@ use native.Mathlib.Omega.{arith}
 use Rattle.border_of_rows.proofs.rise.Statement.{statement}
 use Rattle.border_of_rows.proofs.rise.Tie as tie
 
-abbrev invariant-loop : tie.invariant-loop
+abbrev invariant-loop : tie.invariant-loop-i
 invariant-loop lo y e out₀ at k₀ i₀ out k i =
     (y ≤ i) × (i ≤ e) × (k ≡ at + length (to_row (rows lo) y (i - y))) × Wrote out₀ at (to_row (rows lo) y (i - y)) out
 
-abbrev decreases-loop : tie.decreases-loop
+abbrev decreases-loop : tie.decreases-loop-i
 decreases-loop lo y e out₀ at k₀ i₀ out k i = e - i
 
-loop-holds : tie.Need-loop-init invariant-loop decreases-loop
+loop-holds : tie.Need-loop-i-init invariant-loop decreases-loop
 unfolding to_row
 loop-holds c =
     let args = c.before.args in
     let e : args.y - args.y ≡ 0 = omega arith in
-    rw e (omega arith, c.before.requires.0, omega arith, wrote_none args.out.now args.at)
+    rw e (omega arith, c.before.requires.0, omega arith, wrote_none args.out-1.now args.at)
 
 -- An iteration has room for one row
 room :
-    (c : tie.In-loop invariant-loop decreases-loop)
-    → c.before.loop.k + suc
-    (length (across (rows c.before.before.before.args.lo.now c.before.loop.i)
-    (rows c.before.before.before.args.lo.now (c.before.loop.i + 1)))) ≤ length c.before.loop.out
+    (c : tie.In-loop-i invariant-loop decreases-loop)
+    → c.before.loop-i.k + suc
+    (length (across (rows c.before.before.before.args.lo.now c.before.loop-i.i)
+    (rows c.before.before.before.args.lo.now (c.before.loop-i.i + 1)))) ≤ length c.before.loop-i.out-1
 room c =
     let s = c.before.before.before in
-    let iteration = c.before.loop in
-    let l = c.loop-test.true in
+    let iteration = c.before.loop-i in
+    let l = c.loop-i-test.true in
     omega (
       arith,
       iteration.invariant.2,
@@ -45,22 +45,22 @@ room c =
       rise-fits (rows s.args.lo.now) s.args.y iteration.i s.args.e iteration.invariant.0 l,
     )
 
-slice-write-out : tie.Need-slice-write-out invariant-loop decreases-loop
+slice-write-out : tie.Need-bounds-out-k invariant-loop decreases-loop
 slice-write-out c = omega (arith, room c)
 
-add-across : tie.Need-overflow-add-across invariant-loop decreases-loop
+add-across : tie.Need-overflow_add-k invariant-loop decreases-loop
 add-across c = omega (arith, room c.before)
 
-across-requires : tie.Need-across-requires invariant-loop decreases-loop
+across-requires : tie.Need-across-k-requires invariant-loop decreases-loop
 across-requires c κs = simp length-set (omega (arith, room c.before.before.before))
 
-loop-again : tie.Need-loop-preserved invariant-loop decreases-loop
+loop-again : tie.Need-loop-i-preserved invariant-loop decreases-loop
 loop-again c =
     let t = c.before.before.before.before.before.before in
     let s = t.before.before.before in
     let lo = rows s.args.lo.now in
-    let iteration = t.before.loop in
-    let said = c.before.before.across.ensures in
+    let iteration = t.before.loop-i in
+    let said = c.before.before.across-k.ensures in
     let w = to_row lo s.args.y (iteration.i - s.args.y) in
     let a = across (lo iteration.i) (lo (iteration.i + 1)) in
     let n = length-append w (1 ∷ []) in
@@ -72,21 +72,21 @@ loop-again c =
       wrote-same (sym more) (wrote-both one (iteration.k + 1) (omega (arith, iteration.invariant.2, n)) said.1),
     )
 
-same_length : tie.Need-same-length invariant-loop decreases-loop
-same_length c = c.before.loop.invariant.3.sized
+same_length : tie.Need-shape_of-out invariant-loop decreases-loop
+same_length c = c.before.loop-i.invariant.3.sized
 
 returns : tie.Need-returns invariant-loop decreases-loop
 returns c =
     let s = c.before.before.before in
-    let iteration = c.before.loop in
+    let iteration = c.before.loop-i in
     let e : iteration.i ≡ s.args.e = omega (arith, iteration.invariant.1) in
     let w : to_row (rows s.args.lo.now) s.args.y (iteration.i - s.args.y)
     ≡ to_row (rows s.args.lo.now) s.args.y (s.args.e - s.args.y) =
     ap (λ (i : ℕ). to_row (rows s.args.lo.now) s.args.y (i - s.args.y)) e in
     (omega (arith, iteration.invariant.2, ap length w), wrote-same w iteration.invariant.3)
 
-pub rise-spec : {M : Type 1} → statement M
-rise-spec =
+pub rise_spec : {M : Type 1} → statement M
+rise_spec =
     tie.close
     (tie.spec invariant-loop decreases-loop loop-holds slice-write-out add-across (λ c. omega arith) (λ c. omega arith) (λ c. omega arith)
     (λ c. omega arith) (λ c. omega arith) across-requires (λ c. omega arith) (λ c. omega arith) loop-again same_length returns)

@@ -36,7 +36,7 @@ abbrev last : tie.Start → List ℕ
 last s = to_row (left s) s.args.b (s.args.m - s.args.b)
 
 room : (s : tie.Start)
-    → length (first s) + 1 + length (top s) + length (fallen s) + length (bottom s) + length (last s) ≤ length s.args.out.now
+    → length (first s) + 1 + length (top s) + length (fallen s) + length (bottom s) + length (last s) ≤ length s.args.out-1.now
 room s = omega (arith, round-length (left s) (right s) s.args.b s.args.t s.args.m s.requires.0.1, s.requires.1)
 
 -- The letters up to each call
@@ -50,95 +50,95 @@ abbrev as_bottom : tie.Start → List ℕ
 as_bottom s = as_fallen s ++ bottom s
 
 -- From each call back to the one before it
-abbrev begun : tie.After-rise → tie.Start
+abbrev begun : tie.After-rise-up → tie.Start
 begun c = c.before.before.before
 
-abbrev risen : tie.After-across → tie.After-rise
+abbrev risen : tie.After-across-over → tie.After-rise-up
 risen c = c.before.before.before.before.before.before
 
-abbrev topped : tie.After-fall → tie.After-across
+abbrev topped : tie.After-fall-down → tie.After-across-over
 topped c = c.before.before.before.before
 
-abbrev descended : tie.After-across2 → tie.After-fall
+abbrev descended : tie.After-across-back → tie.After-fall-down
 descended c = c.before.before.before.before.before.before
 
-abbrev returned : tie.After-rise2 → tie.After-across2
+abbrev returned : tie.After-rise → tie.After-across-back
 returned c = c.before.before.before.before
 
-abbrev start-2 : tie.After-across → tie.Start
+abbrev start-2 : tie.After-across-over → tie.Start
 start-2 c = begun (risen c)
 
-abbrev start-3 : tie.After-fall → tie.Start
+abbrev start-3 : tie.After-fall-down → tie.Start
 start-3 c = start-2 (topped c)
 
-abbrev start-4 : tie.After-across2 → tie.Start
+abbrev start-4 : tie.After-across-back → tie.Start
 start-4 c = start-3 (descended c)
 
-abbrev start-5 : tie.After-rise2 → tie.Start
+abbrev start-5 : tie.After-rise → tie.Start
 start-5 c = start-4 (returned c)
 
 -- What is written after each call, and up to where
-up : (c : tie.After-rise) → Front (begun c).args.out.now (first (begun c)) c.rise.new.1.1.1.0 c.rise.result
-up c = let said = c.rise.ensures in record { at = omega (arith, said.0); wrote = said.1 }
+up : (c : tie.After-rise-up) → Front (begun c).args.out-1.now (first (begun c)) c.rise-up.new.1.1.1.0 c.rise-up.result
+up c = let said = c.rise-up.ensures in record { at = omega (arith, said.0); wrote = said.1 }
 
-record Over (c : tie.After-across) : Type 0 where
-  at : c.across.result ≡ (risen c).rise.result + 1 + length (top (start-2 c))
-  front : Front (start-2 c).args.out.now (as_top (start-2 c)) c.across.new.0 c.across.result
+record Over (c : tie.After-across-over) : Type 0 where
+  at : c.across-over.result ≡ (risen c).rise-up.result + 1 + length (top (start-2 c))
+  front : Front (start-2 c).args.out-1.now (as_top (start-2 c)) c.across-over.new.0 c.across-over.result
 
-over : (c : tie.After-across) → Over c
+over : (c : tie.After-across-over) → Over c
 over c =
-    let said = c.across.ensures in
+    let said = c.across-over.ensures in
     let before = up (risen c) in
     record { at = said.0; front = front-more (front-put before 1 (omega (arith, room (start-2 c), before.at))) said.0 said.1 }
 
-record Down (c : tie.After-fall) : Type 0 where
-  at : c.fall.result ≡ (topped c).across.result + length (fallen (start-3 c))
-  front : Front (start-3 c).args.out.now (as_fallen (start-3 c)) c.fall.new.1.1.1.0 c.fall.result
+record Down (c : tie.After-fall-down) : Type 0 where
+  at : c.fall-down.result ≡ (topped c).across-over.result + length (fallen (start-3 c))
+  front : Front (start-3 c).args.out-1.now (as_fallen (start-3 c)) c.fall-down.new.1.1.1.0 c.fall-down.result
 
-down : (c : tie.After-fall) → Down c
-down c = let said = c.fall.ensures in record { at = said.0; front = front-more (over (topped c)).front said.0 said.1 }
+down : (c : tie.After-fall-down) → Down c
+down c = let said = c.fall-down.ensures in record { at = said.0; front = front-more (over (topped c)).front said.0 said.1 }
 
-record Back (c : tie.After-across2) : Type 0 where
-  at : c.across2.result ≡ (descended c).fall.result + length (bottom (start-4 c))
-  front : Front (start-4 c).args.out.now (as_bottom (start-4 c)) c.across2.new.0 c.across2.result
+record Back (c : tie.After-across-back) : Type 0 where
+  at : c.across-back.result ≡ (descended c).fall-down.result + length (bottom (start-4 c))
+  front : Front (start-4 c).args.out-1.now (as_bottom (start-4 c)) c.across-back.new.0 c.across-back.result
 
-back : (c : tie.After-across2) → Back c
-back c = let said = c.across2.ensures in record { at = said.0; front = front-more (down (descended c)).front said.0 said.1 }
+back : (c : tie.After-across-back) → Back c
+back c = let said = c.across-back.ensures in record { at = said.0; front = front-more (down (descended c)).front said.0 said.1 }
 
-done : (c : tie.After-rise2)
-    → Front (start-5 c).args.out.now (as_bottom (start-5 c) ++ last (start-5 c)) c.rise2.new.1.1.1.0 c.rise2.result
-done c = let said = c.rise2.ensures in front-more (back (returned c)).front said.0 said.1
+done : (c : tie.After-rise)
+    → Front (start-5 c).args.out-1.now (as_bottom (start-5 c) ++ last (start-5 c)) c.rise.new.1.1.1.0 c.rise.result
+done c = let said = c.rise.ensures in front-more (back (returned c)).front said.0 said.1
 
-rise-requires : tie.Need-rise-requires
+rise-requires : tie.Need-rise-up-requires
 rise-requires c κs =
     let s = c.before.before in (omega (arith, s.requires), omega (arith, s.requires), omega (arith, room s))
 
-slice-write-out : tie.Need-slice-write-out
+slice-write-out : tie.Need-bounds-out-up
 slice-write-out c =
     let r = c.before.before in omega (arith, room (begun r), (up r).at, (up r).wrote.sized)
 
-add-across : tie.Need-overflow-add-across
+add-across : tie.Need-overflow_add-up
 add-across c =
     let r = c.before.before.before in omega (arith, room (begun r), (up r).at)
 
-across-requires : tie.Need-across-requires
+across-requires : tie.Need-across-over-requires
 across-requires c κs =
     let r = c.before.before.before.before.before in
-    omega (arith, room (begun r), (up r).at, (up r).wrote.sized, length-set r.rise.new.1.1.1.0 r.rise.result 1)
+    omega (arith, room (begun r), (up r).at, (up r).wrote.sized, length-set r.rise-up.new.1.1.1.0 r.rise-up.result 1)
 
-fall-requires : tie.Need-fall-requires
+fall-requires : tie.Need-fall-down-requires
 fall-requires c κs =
     let o = c.before.before.before in
     let s = start-2 o in
     (omega (arith, s.pre), omega (arith, s.pre), omega (arith, room s, (over o).at, (over o).front.wrote.sized, (up (risen o)).at))
 
-across-requires-2 : tie.Need-across-requires-2
+across-requires-2 : tie.Need-across-back-requires
 across-requires-2 c κs =
     let d = c.before.before.before.before.before in
     let o = topped d in
     omega (arith, room (start-3 d), (down d).at, (down d).front.wrote.sized, (over o).at, (up (risen o)).at)
 
-rise-requires-2 : tie.Need-rise-requires-2
+rise-requires-2 : tie.Need-rise-requires
 rise-requires-2 c κs =
     let k = c.before.before.before in
     let s = start-4 k in
@@ -149,7 +149,7 @@ rise-requires-2 c κs =
       omega (arith, room s, (back k).at, (back k).front.wrote.sized, (down d).at, (over o).at, (up (risen o)).at),
     )
 
-same_length : tie.Need-same-length
+same_length : tie.Need-shape_of-out
 same_length c = (done c.before.before).wrote.sized
 
 returns : tie.Need-returns
@@ -158,8 +158,8 @@ returns c =
     wrote-front (wrote-same (round-parts (left s) (right s) s.args.b s.args.t s.args.m s.pre.0.1)
     (done c.before.before).wrote)
 
-pub round-spec : {M : Type 1} → statement M
-round-spec =
+pub round_spec : {M : Type 1} → statement M
+round_spec =
     tie.close
     (tie.spec (λ c. search rules) rise-requires slice-write-out add-across (λ c. search rules) (λ c. search rules) (λ c. search rules)
     (λ c. search rules) across-requires fall-requires (λ c. search rules) (λ c. search rules) (λ c. search rules) (λ c. search rules)

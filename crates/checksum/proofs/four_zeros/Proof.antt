@@ -10,5 +10,5 @@ use Rattle.checksum.proofs.four_zeros.Tie as tie
 returns : tie.Need-returns
 returns c = ap (λ (x : ℕ). bit_xor x (c.before.args.state / 16)) c.entry.ensures ∙ nibble c.before.args.state
 
-pub four-zeros-spec : {M : Type 1} → statement M
-four-zeros-spec = tie.close (tie.spec (λ c κs. search rules) returns)
+pub four_zeros_spec : {M : Type 1} → statement M
+four_zeros_spec = tie.close (tie.spec (λ c κs. search rules) returns)

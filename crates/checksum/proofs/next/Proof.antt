@@ -10,8 +10,8 @@ use Rattle.checksum.proofs.next.Tie as tie
 
 returns : tie.Need-returns
 returns c =
-    c.four-zeros2.ensures ∙ ap (λ (s : ℕ). register s (0 ∷ 0 ∷ 0 ∷ 0 ∷ [])) c.before.four-zeros.ensures
+    c.four_zeros-2.ensures ∙ ap (λ (s : ℕ). register s (0 ∷ 0 ∷ 0 ∷ 0 ∷ [])) c.before.four_zeros.ensures
     ∙ byte c.before.before.args.state c.before.before.args.byte (search rules)
 
-pub next-spec : {M : Type 1} → statement M
-next-spec = tie.close (tie.spec (λ c κs. search rules) (λ c κs. search rules) returns)
+pub next_spec : {M : Type 1} → statement M
+next_spec = tie.close (tie.spec (λ c κs. search rules) (λ c κs. search rules) returns)

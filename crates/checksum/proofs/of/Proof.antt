@@ -8,28 +8,28 @@ use Rattle.checksum.proofs.Loop.{one_byte, all-bytes}
 use Rattle.checksum.proofs.of.Statement.{statement}
 use Rattle.checksum.proofs.of.Tie as tie
 
-abbrev invariant-loop : tie.invariant-loop
+abbrev invariant-loop : tie.invariant-loop-i
 invariant-loop bytes state₀ i₀ state i = (i ≤ length bytes) × (register ones (message bytes) ≡ register state (message (drop i bytes)))
 
-abbrev decreases-loop : tie.decreases-loop
+abbrev decreases-loop : tie.decreases-loop-i
 decreases-loop bytes state₀ i₀ state i = length bytes - i
 
-loop-holds : tie.Need-loop-init invariant-loop decreases-loop
+loop-holds : tie.Need-loop-i-init invariant-loop decreases-loop
 loop-holds c = (search rules, refl)
 
-loop-again : tie.Need-loop-preserved invariant-loop decreases-loop
+loop-again : tie.Need-loop-i-preserved invariant-loop decreases-loop
 loop-again c =
     let here = c.before.before.before in
     let bytes = here.before.before.args.bytes.now in (
       search rules,
-      here.loop.invariant.1 ∙ one_byte here.loop.state here.loop.i bytes (search rules)
-          ∙ ap (λ (s : ℕ). register s (message (drop (here.loop.i + 1) bytes))) (sym c.next.ensures),
+      here.loop-i.invariant.1 ∙ one_byte here.loop-i.state here.loop-i.i bytes (search rules)
+          ∙ ap (λ (s : ℕ). register s (message (drop (here.loop-i.i + 1) bytes))) (sym c.next-state.ensures),
     )
 
 returns : tie.Need-returns invariant-loop decreases-loop
 returns c =
     let here = c.before in
-    all-bytes here.loop.state here.loop.i here.before.before.args.bytes.now (search rules) here.loop.invariant.1
+    all-bytes here.loop-i.state here.loop-i.i here.before.before.args.bytes.now (search rules) here.loop-i.invariant.1
 
 pub of_spec : {M : Type 1} → statement M
 of_spec =

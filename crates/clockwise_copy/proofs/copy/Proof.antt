@@ -8,30 +8,30 @@ use Rattle.clockwise_copy.proofs.CopyLaws.{Pasting, pasting-start, pasting-lengt
 use Rattle.clockwise_copy.proofs.copy.Statement.{statement}
 use Rattle.clockwise_copy.proofs.copy.Tie as tie
 
-abbrev invariant-loop : tie.invariant-loop
+abbrev invariant-loop : tie.invariant-loop-i
 invariant-loop list round₀ to i₀ round i = Pasting list round₀ round to i
 
-abbrev decreases-loop : tie.decreases-loop
+abbrev decreases-loop : tie.decreases-loop-i
 decreases-loop list round₀ to i₀ round i = length list - i
 
-loop-holds : tie.Need-loop-init invariant-loop decreases-loop
+loop-holds : tie.Need-loop-i-init invariant-loop decreases-loop
 loop-holds c = pasting-start _ _ _
 
-slice-write-round : tie.Need-slice-write-round invariant-loop decreases-loop
+slice-write-round : tie.Need-bounds-round-to invariant-loop decreases-loop
 slice-write-round c =
     let at = c.before.before in
-    omega (arith, pasting-length at.loop.invariant at.before.requires, at.before.requires)
+    omega (arith, pasting-length at.loop-i.invariant at.before.requires, at.before.requires)
 
-loop-again : tie.Need-loop-preserved invariant-loop decreases-loop
+loop-again : tie.Need-loop-i-preserved invariant-loop decreases-loop
 loop-again c =
     let round = c.before in
-    pasting-next round.before.loop.invariant round.before.before.requires round.loop-test.true _ refl
+    pasting-next round.before.loop-i.invariant round.before.before.requires round.loop-i-test.true _ refl
 
-same_length : tie.Need-same-length invariant-loop decreases-loop
-same_length c = pasting-length c.before.loop.invariant c.before.before.requires
+same_length : tie.Need-shape_of-round invariant-loop decreases-loop
+same_length c = pasting-length c.before.loop-i.invariant c.before.before.requires
 
 returns : tie.Need-returns invariant-loop decreases-loop
-returns c = pasting-end c.before.loop.invariant c.before.before.requires c.loop-test.false
+returns c = pasting-end c.before.loop-i.invariant c.before.before.requires c.loop-i-test.false
 
 pub copy_spec : {M : Type 1} → statement M
 copy_spec =

@@ -16,11 +16,11 @@ two-on (suc (suc zero)) l = refl
 two-on (suc (suc (suc zero))) l = refl
 two-on (suc (suc (suc (suc a)))) l = absurd (omega arith)
 
-returns : tie.Need-returns
-returns c = two-on _ c.if1.true
+returns : tie.Need-returns-then-letter-lt4
+returns c = two-on _ c.if-letter-lt4.true
 
-returns-2 : tie.Need-returns-2
-returns-2 c = sym (opposite-high _ (omega (arith, c.if1.false)))
+returns-2 : tie.Need-returns-else-letter-lt4
+returns-2 c = sym (opposite-high _ (omega (arith, c.if-letter-lt4.false)))
 
-pub opposite-spec : {M : Type 1} → statement M
-opposite-spec = tie.close (tie.spec (λ c. search rules) returns returns-2)
+pub opposite_spec : {M : Type 1} → statement M
+opposite_spec = tie.close (tie.spec (λ c. search rules) returns returns-2)

@@ -14,11 +14,11 @@ use Rattle.comparison.proofs.compare.Statement.{statement}
 use Rattle.comparison.proofs.compare.Tie as tie
 
 abbrev found : tie.After-write → Comparison
-found c = c.before.before.before.relate.result
+found c = c.before.before.before.relate-comparison.result
 
 written : (c : tie.After-write) → c.write.new.1.0 ≡ numbers_of (comparison_fields (found c))
-written c = c.write.ensures.1 ∙ seven-written _ _ c.before.write-arg.given.0.1
-    ∙ ap numbers_of c.before.before.of-comparison.ensures
+written c = c.write.ensures.1 ∙ seven-written _ _ c.before.write-arg-1.given.0.1
+    ∙ ap numbers_of c.before.before.of_comparison.ensures
 
 fields : (c : tie.After-write) → fields_of c.write.new.1.0 ≡ comparison_fields (found c)
 fields c = ap fields_of (written c) ∙ read_back (comparison_fields (found c))
@@ -30,7 +30,7 @@ replied :
     (c.write.new.1.0 ≡ numbers_of (comparison_fields (comparison_of s.anchor s.edges.now s.other s.others.now)))
     × CellsNamed (polygon s.anchor s.edges.now) (polygon s.other s.others.now) (fields_of c.write.new.1.0)
 replied c =
-    let r = c.before.before.before.relate in
+    let r = c.before.before.before.relate-comparison in
     (written c ∙ ap (λ (v : Comparison). numbers_of (comparison_fields v)) r.ensures.0, rw (fields c) r.ensures.1)
 
 -- The piece of the reply, by the list that is returned
@@ -38,26 +38,26 @@ piece_is : (c : tie.After-inner) (h : Returned) → c.inner.result ≡ h → (fi
 piece_is c h e =
     ap (λ (f : Fields). f.piece) (fields c.before) ∙ returned-piece (found c.before) ∙ ap piece_by (sym c.inner.ensures ∙ e)
 
-returns : tie.Need-returns
+returns : tie.Need-returns-in-First
 returns c =
     let n = c.before.before in
     let r = replied n.before in
-    (r.0, (r.1, returned-one _ _ _ (piece_is n First c.enum_told.given.1)))
+    (r.0, (r.1, returned-one _ _ _ (piece_is n First c.enum_told-1.given.1)))
 
-returns-2 : tie.Need-returns-2
+returns-2 : tie.Need-returns-in-Second
 returns-2 c =
     let n = c.before.before in
     let r = replied n.before in
-    (r.0, (r.1, returned-two _ _ _ (piece_is n Second c.enum-told2.given.1)))
+    (r.0, (r.1, returned-two _ _ _ (piece_is n Second c.enum_told-in-Second-1.given.1)))
 
-returns-3 : tie.Need-returns-3
+returns-3 : tie.Need-returns-in-Neither
 returns-3 c =
     let n = c.before.before.before in
     let r = replied n.before in
-    (r.0, (r.1, returned-neither _ _ _ _ (piece_is n Neither c.before.enum-told3.given.1) refl refl))
+    (r.0, (r.1, returned-neither _ _ _ _ (piece_is n Neither c.before.enum_told-in-Neither-1.given.1) refl refl))
 
-pub compare-spec : {M : Type 1} → statement M
-compare-spec =
+pub compare_spec : {M : Type 1} → statement M
+compare_spec =
     tie.close
     (tie.spec (λ c κs. search rules) (λ c κs. search rules) (λ c κs. search rules) (λ c κs. search rules) (λ c. search rules)
     (λ c. search rules) (λ c. search rules) (λ c. search rules) returns returns-2 returns-3)

@@ -10,35 +10,35 @@ use Rattle.comparison.proofs.relate.Statement.{statement}
 use Rattle.comparison.proofs.relate.Tie as tie
 
 -- A list that nothing refuses
-first-fit : (c : tie.After-enum-told) → let s = c.before.before.before.args in Fit ≡ checked_of s.anchor s.edges.now
-first-fit c = sym c.enum_told.given.1 ∙ c.before.before.check.ensures
+first-fit : (c : tie.In-Fit) → let s = c.before.before.before.args in Fit ≡ checked_of s.anchor s.edges.now
+first-fit c = sym c.enum_told-1.given.1 ∙ c.before.before.check.ensures
 
 second-fit :
-    (c : tie.After-enum-told2) → let s = c.before.before.before.before.before.before.args in
+    (c : tie.In-Fit-check) → let s = c.before.before.before.before.before.before.args in
     Fit ≡ checked_of s.other s.others.now
-second-fit c = sym c.enum-told2.given.1 ∙ c.before.before.check2.ensures
+second-fit c = sym c.enum_told-in-Fit-check-1.given.1 ∙ c.before.before.check-in-Fit.ensures
 
 nest-requires : tie.Need-nest-requires
 nest-requires c κs = (fit-passes _ _ (first-fit c.before.before.before), fit-passes _ _ (second-fit c))
 
-returns : tie.Need-returns
+returns : tie.Need-returns-in-Unfit
 returns c =
-    answer-named _ _ _ _ _ (compared-first _ _ _ _ _ (sym c.before.refusal.given.1 ∙ c.before.before.before.check.ensures))
+    answer-named _ _ _ _ _ (compared-first _ _ _ _ _ (sym c.before.refusal-1.given.1 ∙ c.before.before.before.check.ensures))
 
-returns-2 : tie.Need-returns-2
+returns-2 : tie.Need-returns-in-Unfit-check
 returns-2 c =
     let two = c.before.before.before in
     answer-named _ _ _ _ _
-    (compared-second _ _ _ _ _ (first-fit two.before) (sym c.before.refusal2.given.1 ∙ two.check2.ensures))
+    (compared-second _ _ _ _ _ (first-fit two.before) (sym c.before.refusal-in-Unfit-check-2-1.given.1 ∙ two.check-in-Fit.ensures))
 
-returns-3 : tie.Need-returns-3
+returns-3 : tie.Need-returns-in-Fit-check
 returns-3 c =
     let told = c.before in
     answer-named _ _ _ _ _ (ap Found c.nest.ensures
     ∙ compared-found _ _ _ _ (first-fit told.before.before.before) (second-fit told))
 
-pub relate-spec : {M : Type 1} → statement M
-relate-spec =
+pub relate_spec : {M : Type 1} → statement M
+relate_spec =
     tie.close
     (tie.spec (λ c κs. search rules) (λ c. search rules) (λ c. search rules) (λ c κs. search rules) (λ c. search rules)
     (λ c. search rules) nest-requires returns returns-2 returns-3)

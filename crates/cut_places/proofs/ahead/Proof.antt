@@ -6,11 +6,11 @@ use Rattle.cut_places.proofs.CutLaws.{ahead-round}
 use Rattle.cut_places.proofs.ahead.Statement.{statement}
 use Rattle.cut_places.proofs.ahead.Tie as tie
 
-returns : tie.Need-returns
+returns : tie.Need-returns-then-a-b
 returns c = sym (ahead-on _ _ _ (search rules))
 
-returns-2 : tie.Need-returns-2
+returns-2 : tie.Need-returns-else-a-b
 returns-2 c = sym (ahead-round _ _ _ (search rules) (search rules))
 
-pub ahead-spec : {M : Type 1} → statement M
-ahead-spec = tie.close (tie.spec (λ c. search rules) (λ c. search rules) returns returns-2)
+pub ahead_spec : {M : Type 1} → statement M
+ahead_spec = tie.close (tie.spec (λ c. search rules) (λ c. search rules) returns returns-2)

@@ -8,17 +8,17 @@ use borrow.Author.Rules.{rules}
 use Rattle.dents.proofs.put.Statement.{statement}
 use Rattle.dents.proofs.put.Tie as tie
 
-slice-set-from-dy : tie.Need-slice-set-from-dy
+slice-set-from-dy : tie.Need-bounds-list-at-then-count-list
 slice-set-from-dy c = simp length-set (omega arith)
 
-returns : tie.Need-returns
+returns : tie.Need-returns-then-count-list
 returns c =
     let at = c.before.args in
     let fits = c.before.ranges in
-    simp (to_z-of_z w16 at.dx fits.dx, to_z-of_z w16 at.dy fits.dy) (put-behind _ _ _ _ c.if1.true)
+    simp (to_z-of_z w16 at.dx fits.dx, to_z-of_z w16 at.dy fits.dy) (put-behind _ _ _ _ c.if-count-list.true)
 
-returns-2 : tie.Need-returns-2
-returns-2 c = put-nowhere _ _ _ _ c.if1.false
+returns-2 : tie.Need-returns
+returns-2 c = put-nowhere _ _ _ _ c.if-count-list.false
 
 pub put_spec : {M : Type 1} → statement M
 put_spec =

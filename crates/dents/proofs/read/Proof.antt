@@ -10,74 +10,74 @@ use Rattle.dents.proofs.DentLaws.{Passed, Read, passed_start, passed-next, passe
 use Rattle.dents.proofs.read.Statement.{statement}
 use Rattle.dents.proofs.read.Tie as tie
 
-abbrev invariant-loop : tie.invariant-loop
+abbrev invariant-loop : tie.invariant-loop-k
 invariant-loop buffer list₀ at edges₀ k₀ list edges k = Passed buffer at list₀ list edges k
 
-abbrev decreases-loop : tie.decreases-loop
+abbrev decreases-loop : tie.decreases-loop-k
 decreases-loop buffer list₀ at edges₀ k₀ list edges k = 4 - k
 
-loop-holds : tie.Need-loop-init invariant-loop decreases-loop
+loop-holds : tie.Need-loop-k-init invariant-loop decreases-loop
 loop-holds c = passed_start _ _ _
 
 -- Piece k is read
-module _ (c : tie.After-read-piece invariant-loop decreases-loop) where
+module _ (c : tie.After-read_piece-word invariant-loop decreases-loop) where
   abbrev k : ℕ
-  k = c.before.before.before.loop.k
+  k = c.before.before.before.loop-k.k
 
   abbrev at : List ℕ
-  at = c.before.before.before.before.before.before.args.cuts.at
+  at = c.before.before.before.before.before.before.args.cuts.at-1
 
   here :
       Read c.before.before.before.before.before.before.args.ring.now at
-      c.before.before.before.before.before.before.args.list.now
-      c.before.before.before.loop.list c.before.before.before.loop.edges k (get_or at k 0) (get_or at (k + 1) 0)
-      c.read-piece.new.1.1.1.1.0 c.read-piece.result
+      c.before.before.before.before.before.before.args.list-1.now
+      c.before.before.before.loop-k.list-1 c.before.before.before.loop-k.edges k (get_or at k 0) (get_or at (k + 1) 0)
+      c.read_piece-word.new.1.1.1.1.0 c.read_piece-word.result
   here =
       record {
-        pieces = c.before.before.before.loop.invariant;
+        pieces = c.before.before.before.loop-k.invariant;
         piece_lt = search rules;
         begins = refl;
         ends = refl;
-        kept = c.read-piece.auto.1.1.1.1.0;
-        found = c.read-piece.ensures;
+        kept = c.read_piece-word.auto.1.1.1.1.0;
+        found = c.read_piece-word.ensures;
       }
 
 -- What it is read as decides
-module _ {r : InWord} (c : tie.After-read-piece invariant-loop decreases-loop) (e : c.read-piece.result ≡ r) where
+module _ {r : InWord} (c : tie.After-read_piece-word invariant-loop decreases-loop) (e : c.read_piece-word.result ≡ r) where
   read_as :
       Read c.before.before.before.before.before.before.args.ring.now (at c)
-      c.before.before.before.before.before.before.args.list.now
-      c.before.before.before.loop.list c.before.before.before.loop.edges (k c) (get_or (at c) (k c) 0) (get_or (at c) (k c + 1) 0)
-      c.read-piece.new.1.1.1.1.0 r
+      c.before.before.before.before.before.before.args.list-1.now
+      c.before.before.before.loop-k.list-1 c.before.before.before.loop-k.edges (k c) (get_or (at c) (k c) 0) (get_or (at c) (k c + 1) 0)
+      c.read_piece-word.new.1.1.1.1.0 r
   read_as = rw (sym e) (here c)
 
-add-t23 : tie.Need-overflow-add-t23 invariant-loop decreases-loop
+add-t23 : tie.Need-overflow_add-result invariant-loop decreases-loop
 add-t23 c =
-    let p = read_as c.before.before.before.before c.before.word.given.1 in
+    let p = read_as c.before.before.before.before c.before.word-1.given.1 in
     omega (arith, p.found.within.0, c.before.before.before.before.before.before.before.before.before.before.well-formed.1.0)
 
-add-t24 : tie.Need-overflow-add-t24 invariant-loop decreases-loop
+add-t24 : tie.Need-overflow_add-result-in-Dent invariant-loop decreases-loop
 add-t24 c =
-    let p = read_as c.before.before.before.before c.before.word.given.1 in
+    let p = read_as c.before.before.before.before c.before.word-1.given.1 in
     omega (arith, p.found.within.0, c.before.before.before.before.before.before.before.before.before.before.well-formed.1.0)
 
-same_length : tie.Need-same-length invariant-loop decreases-loop
-same_length c = let p = read_as c.before.before.before.before c.before.word.given.1 in p.kept ∙ p.pieces.same
+same_length : tie.Need-shape_of-list-in-Dent invariant-loop decreases-loop
+same_length c = let p = read_as c.before.before.before.before c.before.word-1.given.1 in p.kept ∙ p.pieces.same
 
-returns : tie.Need-returns invariant-loop decreases-loop
-returns c = passed-dent (read_as c.before.before.before.before c.before.word.given.1)
+returns : tie.Need-returns-in-Dent invariant-loop decreases-loop
+returns c = passed-dent (read_as c.before.before.before.before c.before.word-1.given.1)
 
-loop-less : tie.Need-loop-smaller invariant-loop decreases-loop
+loop-less : tie.Need-loop-k-smaller invariant-loop decreases-loop
 loop-less c = omega (arith, (here c.before.before.before.before).piece_lt)
 
-loop-again : tie.Need-loop-preserved invariant-loop decreases-loop
-loop-again c = passed-next (read_as c.before.before.before.before c.before.word2.given.1)
+loop-again : tie.Need-loop-k-preserved invariant-loop decreases-loop
+loop-again c = passed-next (read_as c.before.before.before.before c.before.word-in-Edges-1.given.1)
 
-same-length-2 : tie.Need-same-length-2 invariant-loop decreases-loop
-same-length-2 c = c.before.loop.invariant.same
+same-length-2 : tie.Need-shape_of-list invariant-loop decreases-loop
+same-length-2 c = c.before.loop-k.invariant.same
 
-returns-2 : tie.Need-returns-2 invariant-loop decreases-loop
-returns-2 c = passed-end c.before.loop.invariant c.loop-test.false
+returns-2 : tie.Need-returns invariant-loop decreases-loop
+returns-2 c = passed-end c.before.loop-k.invariant c.loop-k-test.false
 
 pub read_spec : {M : Type 1} → statement M
 read_spec =

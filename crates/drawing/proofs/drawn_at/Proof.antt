@@ -6,7 +6,7 @@ use Rattle.drawing.proofs.drawn_at.Tie as tie
 
 returns : tie.Need-returns
 unfolding drawn_reply
-returns c = rw (c.cell_in.ensures, c.before.piece_of.ensures, c.before.before.stroke-at.ensures)
+returns c = rw (c.cell_in.ensures, c.before.piece_of.ensures, c.before.before.stroke_at-found.ensures)
 
-pub drawn-at-spec : {M : Type 1} → statement M
-drawn-at-spec = tie.close (tie.spec (λ c κs. search rules) (λ c κs. search rules) (λ c κs. search rules) returns)
+pub drawn_at_spec : {M : Type 1} → statement M
+drawn_at_spec = tie.close (tie.spec (λ c κs. search rules) (λ c κs. search rules) (λ c κs. search rules) returns)

@@ -11,24 +11,24 @@ use Rattle.drawing.proofs.piece_of.Tie as tie
 shown : {r s : Stroke} {p : Piece} → r ≡ s → p ≡ piece_of s → p ≡ piece_of r
 shown e p = p ∙ ap piece_of (sym e)
 
-returns : tie.Need-returns
+returns : tie.Need-returns-in-Move
 unfolding piece_of
-returns c = shown c.before.before.before.stroke.given.1 (ap₂ MoveTo c.before.half.ensures c.half2.ensures)
+returns c = shown c.before.before.before.stroke-1.given.1 (ap₂ MoveTo c.before.half.ensures c.half-in-Move.ensures)
 
-returns-2 : tie.Need-returns-2
+returns-2 : tie.Need-returns-in-Line
 unfolding piece_of
-returns-2 c = shown c.before.before.before.stroke2.given.1 (ap₂ LineTo c.before.half3.ensures c.half4.ensures)
+returns-2 c = shown c.before.before.before.stroke-in-Line-1.given.1 (ap₂ LineTo c.before.half-in-Line.ensures c.half-in-Line-2.ensures)
 
-returns-3 : tie.Need-returns-3
+returns-3 : tie.Need-returns-in-Close
 unfolding piece_of
-returns-3 c = shown c.enum_told.given.1 refl
+returns-3 c = shown c.enum_told-1.given.1 refl
 
-returns-4 : tie.Need-returns-4
+returns-4 : tie.Need-returns-in-None
 unfolding piece_of
-returns-4 c = shown c.enum-told2.given.1 refl
+returns-4 c = shown c.enum_told-in-None-1.given.1 refl
 
-pub piece-of-spec : {M : Type 1} → statement M
-piece-of-spec =
+pub piece_of_spec : {M : Type 1} → statement M
+piece_of_spec =
     tie.close
     (tie.spec (λ c. search rules) (λ c κs. search rules) (λ c κs. search rules) (λ c. search rules) (λ c κs. search rules)
     (λ c κs. search rules) (λ c. search rules) (λ c. search rules) returns returns-2 returns-3 returns-4)

@@ -6,12 +6,12 @@ use Rattle.drawing.proofs.Points.{pair-short, pair-sets}
 use Rattle.drawing.proofs.write_pair.Statement.{statement}
 use Rattle.drawing.proofs.write_pair.Tie as tie
 
-returns : tie.Need-returns
+returns : tie.Need-returns-then-point-lt2
 returns c = sym (pair-short _ _ _ (omega arith))
 
-returns-2 : tie.Need-returns-2
+returns-2 : tie.Need-returns
 returns-2 c = pair-sets _ _ _ (omega arith)
 
-pub write-pair-spec : {M : Type 1} → statement M
-write-pair-spec =
+pub write_pair_spec : {M : Type 1} → statement M
+write_pair_spec =
     tie.close (tie.spec returns (λ c. search rules) (λ c. search rules) (λ c. search rules) returns-2)

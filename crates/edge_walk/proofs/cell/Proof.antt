@@ -7,21 +7,21 @@ use Rattle.directions.proofs.OnChart.{number_fits, on-parts}
 use Rattle.edge_walk.proofs.cell.Statement.{statement}
 use Rattle.edge_walk.proofs.cell.Tie as tie
 
-col-read : (c : tie.After-struct-told) → to_z w32 (of_z w32 c.before.before.args.at.col) ≡ c.before.before.args.at.col
-col-read c = to_z-of_z w32 _ (record { sfits = c.struct_told.given.0.1 })
+col-read : (c : tie.After-struct_told-1) → to_z w32 (of_z w32 c.before.before.args.at.col) ≡ c.before.before.args.at.col
+col-read c = to_z-of_z w32 _ (record { sfits = c.struct_told-1.given.0.1 })
 
-row_read : (c : tie.After-struct-told2)
+row_read : (c : tie.After-struct_told-2-1)
     → to_z w32 (of_z w32 c.before.before.before.before.args.at.row) ≡ c.before.before.before.before.args.at.row
-row_read c = to_z-of_z w32 _ (record { sfits = c.struct-told2.given.1.0.1 })
+row_read c = to_z-of_z w32 _ (record { sfits = c.struct_told-2-1.given.1.0.1 })
 
-cast-t2 : tie.Need-overflow-cast-t2
+cast-t2 : tie.Need-overflow_cast-result
 cast-t2 c = rw (col-read c) (number_fits _ (on-parts _ _ c.before.before.requires).0)
 
-cast-t3 : tie.Need-overflow-cast-t3
+cast-t3 : tie.Need-overflow_cast-result-2
 cast-t3 c = rw (row_read c) (number_fits _ (on-parts _ _ c.before.before.before.before.requires).1)
 
 returns : tie.Need-returns
 returns c = rw (col-read c.before.before, row_read c)
 
-pub cell-spec : {M : Type 1} → statement M
-cell-spec = tie.close (tie.spec cast-t2 cast-t3 returns)
+pub cell_spec : {M : Type 1} → statement M
+cell_spec = tie.close (tie.spec cast-t2 cast-t3 returns)

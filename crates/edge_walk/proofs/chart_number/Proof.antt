@@ -10,5 +10,5 @@ returns : tie.Need-returns
 unfolding chart_number
 returns c = simp (to_z-of_z w32 c.args.z c.ranges.z)
 
-pub chart-number-spec : {M : Type 1} → statement M
-chart-number-spec = tie.close (tie.spec (λ c. search rules) returns)
+pub chart_number_spec : {M : Type 1} → statement M
+chart_number_spec = tie.close (tie.spec (λ c. search rules) returns)

@@ -13,9 +13,9 @@ unfolding is_on_chart
 returns c =
     let at = c.before.before.before.before.args.at in
     ap₂ ◌&&◌
-    (simp (to_z-of_z w32 at.col (record { sfits = c.before.before.before.struct_told.given.0.1 })) at
-    c.before.before.chart-number.ensures)
-    (simp (to_z-of_z w32 at.row (record { sfits = c.before.struct-told2.given.1.0.1 })) at c.chart-number2.ensures)
+    (simp (to_z-of_z w32 at.col (record { sfits = c.before.before.before.struct_told-1.given.0.1 })) at
+    c.before.before.chart_number.ensures)
+    (simp (to_z-of_z w32 at.row (record { sfits = c.before.struct_told-2-1.given.1.0.1 })) at c.chart_number-2.ensures)
 
-pub on-chart-spec : {M : Type 1} → statement M
-on-chart-spec = tie.close (tie.spec (λ c κs. search rules) (λ c κs. search rules) returns)
+pub on_chart_spec : {M : Type 1} → statement M
+on_chart_spec = tie.close (tie.spec (λ c κs. search rules) (λ c κs. search rules) returns)

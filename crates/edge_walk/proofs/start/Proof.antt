@@ -6,10 +6,10 @@ use mir.ValLaws.{to_z-of_z}
 use Rattle.edge_walk.proofs.start.Statement.{statement}
 use Rattle.edge_walk.proofs.start.Tie as tie
 
-cast-t2 : tie.Need-overflow-cast-t2
+cast-t2 : tie.Need-overflow_cast-result
 cast-t2 c = search rules
 
-cast-t3 : tie.Need-overflow-cast-t3
+cast-t3 : tie.Need-overflow_cast-result-2
 cast-t3 c = search rules
 
 returns : tie.Need-returns

@@ -7,5 +7,5 @@ use Rattle.equality.proofs.same_number.Tie as tie
 returns : tie.Need-returns
 returns c = same_bits w16 c.args.a c.args.b c.ranges.a c.ranges.b
 
-pub same-number-spec : {M : Type 1} → statement M
-same-number-spec = tie.close (tie.spec returns)
+pub same_number_spec : {M : Type 1} → statement M
+same_number_spec = tie.close (tie.spec returns)

@@ -8,25 +8,25 @@ use borrow.Author.Rules.{rules}
 use Rattle.fitting_records.proofs.after_mark.Statement.{statement}
 use Rattle.fitting_records.proofs.after_mark.Tie as tie
 
-returns : tie.Need-returns
+returns : tie.Need-returns-then-left-lt4
 returns c = sym (after-short _ (simp length-drop (omega arith)))
 
-returns-2 : tie.Need-returns-2
+returns-2 : tie.Need-returns-then-left-count
 returns-2 c =
     let first = c.before.before.before.before.before.before in
     let a = first.before.before.args in
-    let four : a.at + 4 ≤ length a.file.now = omega (arith, first.if1.false) in
-    sym (after-cut _ a.at _ four c.before.wide.ensures (omega (arith, c.if2.true)))
+    let four : a.at + 4 ≤ length a.file.now = omega (arith, first.if-left-lt4.false) in
+    sym (after-cut _ a.at _ four c.before.wide-count.ensures (omega (arith, c.if-left-count.true)))
 
-returns-3 : tie.Need-returns-3
+returns-3 : tie.Need-returns
 returns-3 c =
     let first = c.before.before.before.before.before.before in
     let a = first.before.before.args in
-    let four : a.at + 4 ≤ length a.file.now = omega (arith, first.if1.false) in
-    sym (after-whole _ a.at _ four c.before.wide.ensures (omega (arith, c.if2.false)))
+    let four : a.at + 4 ≤ length a.file.now = omega (arith, first.if-left-lt4.false) in
+    sym (after-whole _ a.at _ four c.before.wide-count.ensures (omega (arith, c.if-left-count.false)))
 
-pub after-mark-spec : {M : Type 1} → statement M
-after-mark-spec =
+pub after_mark_spec : {M : Type 1} → statement M
+after_mark_spec =
     tie.close
     (tie.spec (λ c. search rules) returns (λ c. search rules) (λ c. search rules) (λ c. search rules) (λ c. search rules)
     (λ c. search rules) (λ c. search rules) (λ c. search rules) (λ c κs. search rules) returns-2 returns-3)

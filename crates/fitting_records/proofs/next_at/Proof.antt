@@ -200,9 +200,9 @@ next-at-meets {𝓤 = 𝓤} 𝓛 mem run 𝓣 known-new known_next =
     (WpFn-mono 𝓤 𝓛.H 𝓛.laws 𝓣 code.function)
     (next-at-walks 𝓛 mem run 𝓣.C 𝓣.Λ (fm_of 𝓤 𝓛.H 𝓛.laws 𝓣) known-new known_next)
 
-pub next-at-spec : {M : Type 1} → stated.statement M
+pub next_at_spec : {M : Type 1} → stated.statement M
 unfolding code.routine tables_of
-next-at-spec 𝓤 𝓛 𝓜 𝓡 =
+next_at_spec 𝓤 𝓛 𝓜 𝓡 =
     entered 𝓤 𝓛.H (triple_of 𝓛 next-at.signature (next-at.spec 𝓛 𝓜.mem 𝓡.run))
     (tables 𝓤 𝓛.H 𝓜 𝓡 code.env).C (tables 𝓤 𝓛.H 𝓜 𝓡 code.env).Λ #fitting-records·next-at code.function (code.unfolded 𝓤 𝓛.H 𝓜 𝓡)
     (next-at-meets 𝓛 𝓜.mem 𝓡.run (tables_of 𝓤 𝓛.H 𝓜 (tables 𝓤 𝓛.H 𝓜 𝓡 code.env))

@@ -20,26 +20,26 @@ no-width WrongMark h = refl
 no-width Truncated h = refl
 no-width (Record c r m) h = absurd (miss (0 ∷ 1 ∷ 2 ∷ []) 3 tt h)
 
-add-letters : tie.Need-overflow-add-letters
+add-letters : tie.Need-overflow_add-letters
 add-letters c =
     let call = c.before.before.before in
     let a = call.before.before.args in
-    let here = passed {file = a.file.now} {at = a.at} refl (sym call.found_at.ensures ∙ c.before.found.given.1) in
+    let here = passed {file = a.file.now} {at = a.at} refl (sym call.found_at-found.ensures ∙ c.before.found-1.given.1) in
     omega arith
 
-add-t6 : tie.Need-overflow-add-t6
+add-t6 : tie.Need-overflow_add-result
 add-t6 c =
     let call = c.before.before.before in
     let a = call.before.before.args in
-    let here = passed {file = a.file.now} {at = a.at} refl (sym call.found_at.ensures ∙ c.before.found.given.1) in
+    let here = passed {file = a.file.now} {at = a.at} refl (sym call.found_at-found.ensures ∙ c.before.found-1.given.1) in
     omega arith
 
-returns : tie.Need-returns
-returns c = step-on _ _ _ _ _ (sym c.before.before.before.found_at.ensures ∙ c.before.found.given.1)
+returns : tie.Need-returns-in-Record
+returns c = step-on _ _ _ _ _ (sym c.before.before.before.found_at-found.ensures ∙ c.before.found-1.given.1)
 
-returns-2 : tie.Need-returns-2
-returns-2 c = step_stays _ _ _ c.before.found_at.ensures (no-width _ c.match.keys2)
+returns-2 : tie.Need-returns
+returns-2 c = step_stays _ _ _ c.before.found_at-found.ensures (no-width _ c.in-Record.keys2)
 
-pub step-at-spec : {M : Type 1} → statement M
-step-at-spec =
+pub step_at_spec : {M : Type 1} → statement M
+step_at_spec =
     tie.close (tie.spec (λ c κs. search rules) (λ c. search rules) add-letters add-t6 returns returns-2)

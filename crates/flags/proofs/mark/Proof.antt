@@ -5,10 +5,10 @@ use Rattle.flags.proofs.FlagLaws.{above-not-set, with-above, is-set-below, with_
 use Rattle.flags.proofs.mark.Statement.{statement}
 use Rattle.flags.proofs.mark.Tie as tie
 
-returns : tie.Need-returns
+returns : tie.Need-returns-then-n-gt-LAST_NUMBER
 returns c = (above-not-set _ c.before.args.n (omega arith), with-above _ c.before.args.n (omega arith))
 
-returns-2 : tie.Need-returns-2
+returns-2 : tie.Need-returns
 returns-2 c = (is-set-below _ c.before.before.args.n (omega arith), with_shift _ c.before.before.args.n (omega arith))
 
 pub mark_spec : {M : Type 1} → statement M

@@ -8,7 +8,7 @@ use Rattle.frames.proofs.frame.Tie as tie
 returns : tie.Need-returns
 returns c =
     let written = c.before.before.before.before in
-    (c.put.ensures ∙ ap numbers_of written.framed.ensures.0, written.framed.ensures.1)
+    (c.put.ensures ∙ ap numbers_of written.framed-fields.ensures.0, written.framed-fields.ensures.1)
 
-pub frame-spec : {M : Type 1} → statement M
-frame-spec = tie.close (tie.spec (λ c κs. search rules) (λ c κs. search rules) (λ c. search rules) returns)
+pub frame_spec : {M : Type 1} → statement M
+frame_spec = tie.close (tie.spec (λ c κs. search rules) (λ c κs. search rules) (λ c. search rules) returns)

@@ -7,34 +7,34 @@ use Rattle.frames.proofs.Theorems.{framed-long, kept-long, framed-short, kept-sh
 use Rattle.frames.proofs.framed.Statement.{statement}
 use Rattle.frames.proofs.framed.Tie as tie
 
-returns : tie.Need-returns
+returns : tie.Need-returns-then-n-gt-BODY
 returns c =
-    let long = c.before.if1.true in
-    (c.of-refusal.ensures ∙ sym (framed-long _ long _), sym (kept-long _ long _))
+    let long = c.before.if-n-gt-BODY.true in
+    (c.of_refusal.ensures ∙ sym (framed-long _ long _), sym (kept-long _ long _))
 
-returns-2 : tie.Need-returns-2
+returns-2 : tie.Need-returns-then-frame-n
 returns-2 c =
-    let short = c.before.if2.true in
-    let fit = c.before.before.if1.false in (
-      c.of-refusal2.ensures ∙ sym (framed-short _ (omega (arith, fit)) _ (omega (arith, short))),
+    let short = c.before.if-frame-n.true in
+    let fit = c.before.before.if-n-gt-BODY.false in (
+      c.of_refusal-then-frame-n.ensures ∙ sym (framed-short _ (omega (arith, fit)) _ (omega (arith, short))),
       sym (kept-short _ (omega (arith, fit)) _ (omega (arith, short))),
     )
 
-returns-3 : tie.Need-returns-3
+returns-3 : tie.Need-returns
 returns-3 c =
     let sealed = c.before.before.before in
     let copied = sealed.before.before.before.before in
     let begun = copied.before.before.before.before in
     let two = begun.before.before in
-    let fit = two.before.if1.false in
-    let room = two.if2.false in (
+    let fit = two.before.if-n-gt-BODY.false in
+    let room = two.if-frame-n.false in (
       c.placed.ensures ∙ sym (framed-done _ (omega (arith, fit)) _ (omega (arith, room))),
       sealed.seal.ensures ∙ framed-list _ _ _ _ begun.begin.ensures copied.copy.ensures
           ∙ sym (written _ (omega (arith, fit)) _ (omega (arith, room))),
     )
 
-pub framed-spec : {M : Type 1} → statement M
-framed-spec =
+pub framed_spec : {M : Type 1} → statement M
+framed_spec =
     tie.close
     (tie.spec (λ c κs. search rules) returns (λ c. search rules) (λ c κs. search rules) returns-2 (λ c κs. search rules)
     (λ c. search rules) (λ c κs. search rules) (λ c. search rules) (λ c κs. search rules) (λ c. search rules) (λ c. search rules)

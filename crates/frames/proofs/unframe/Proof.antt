@@ -8,7 +8,7 @@ use Rattle.frames.proofs.unframe.Tie as tie
 returns : tie.Need-returns
 returns c =
     let written = c.before.before.before.before in
-    (c.put.ensures ∙ ap numbers_of written.unframed.ensures.0, written.unframed.ensures.1)
+    (c.put.ensures ∙ ap numbers_of written.unframed-fields.ensures.0, written.unframed-fields.ensures.1)
 
-pub unframe-spec : {M : Type 1} → statement M
-unframe-spec = tie.close (tie.spec (λ c κs. search rules) (λ c κs. search rules) (λ c. search rules) returns)
+pub unframe_spec : {M : Type 1} → statement M
+unframe_spec = tie.close (tie.spec (λ c κs. search rules) (λ c κs. search rules) (λ c. search rules) returns)

@@ -4,22 +4,22 @@ use Rattle.holder_bytes.proofs.ByteLaws.{responded-none, responded-as, responded
 use Rattle.holder_bytes.proofs.respond.Statement.{statement}
 use Rattle.holder_bytes.proofs.respond.Tie as tie
 
-returns : tie.Need-returns
+returns : tie.Need-returns-then-bytes-ne-BYTES
 returns c =
-    let call = responded-none _ _ (decoded-other _ c.if1.true) _ in
+    let call = responded-none _ _ (decoded-other _ c.if-bytes-ne-BYTES.true) _ in
     (call, responded-told _ _ _ _ _ _ call)
 
-returns-2 : tie.Need-returns-2
+returns-2 : tie.Need-returns
 returns-2 c =
     let second = c.before.before.before.before.before.before.before.before.before in
     let first = second.before.before.before.before.before in
     let long = first.before.before.before.before.before in
-    let call = responded-as _ _ _ _ (decoded-call _ long.if1.false _ _ first.long.ensures second.long2.ensures) _ _ _
+    let call = responded-as _ _ _ _ (decoded-call _ long.if-bytes-ne-BYTES.false _ _ first.long-x.ensures second.long-y.ensures) _ _ _
     c.act.ensures in
     (call, responded-told _ _ _ _ _ _ call)
 
-pub respond-spec : {M : Type 1} → statement M
-respond-spec =
+pub respond_spec : {M : Type 1} → statement M
+respond_spec =
     tie.close
     (tie.spec returns
     (λ c. search rules) (λ c. search rules) (λ c. search rules) (λ c. search rules) (λ c κs. search rules)

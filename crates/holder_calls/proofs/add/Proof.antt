@@ -5,31 +5,31 @@ use borrow.Author.Rules.{rules}
 use Rattle.holder_calls.proofs.add.Statement.{statement}
 use Rattle.holder_calls.proofs.add.Tie as tie
 
-returns : tie.Need-returns
-returns c = λ r n. no-party _ _ c.if1.true
+returns : tie.Need-returns-then-p-ge-PARTIES
+returns c = λ r n. no-party _ _ c.if-p-ge-PARTIES.true
 
-returns-2 : tie.Need-returns-2
-returns-2 c = λ r n. add_none _ _ c.before.before.if1.false _ c.if2.true
+returns-2 : tie.Need-returns-then-heads-at-eq0
+returns-2 c = λ r n. add_none _ _ c.before.before.if-p-ge-PARTIES.false _ c.if-heads-at-eq0.true
 
-returns-3 : tie.Need-returns-3
+returns-3 : tie.Need-returns-then-n-ge-LONGEST
 returns-3 c =
     let read = c.before in
     let one = read.before.before in
-    λ r n. add-full _ _ one.before.before.if1.false _ one.if2.false (omega (arith, read.wide.ensures, c.if3.true))
+    λ r n. add-full _ _ one.before.before.if-p-ge-PARTIES.false _ one.if-heads-at-eq0.false (omega (arith, read.wide-n.ensures, c.if-n-ge-LONGEST.true))
 
-returns-4 : tie.Need-returns-4
+returns-4 : tie.Need-returns-then-letter-gt3
 returns-4 c =
     let read = c.before.before in
     let one = read.before.before in
-    λ r n. add-letter _ _ one.before.before.if1.false _ one.if2.false (omega (arith, read.wide.ensures, c.before.if3.false))
-    c.if4.true
+    λ r n. add-letter _ _ one.before.before.if-p-ge-PARTIES.false _ one.if-heads-at-eq0.false (omega (arith, read.wide-n.ensures, c.before.if-n-ge-LONGEST.false))
+    c.if-letter-gt3.true
 
-returns-5 : tie.Need-returns-5
+returns-5 : tie.Need-returns
 returns-5 c =
     let read = c.before.before in
     let one = read.before.before in
-    λ r n. add_done _ _ one.before.before.if1.false _ one.if2.false (omega (arith, read.wide.ensures, c.before.if3.false)) _
-    read.wide.ensures c.if4.false
+    λ r n. add_done _ _ one.before.before.if-p-ge-PARTIES.false _ one.if-heads-at-eq0.false (omega (arith, read.wide-n.ensures, c.before.if-n-ge-LONGEST.false)) _
+    read.wide-n.ensures c.if-letter-gt3.false
 
 pub add_spec : {M : Type 1} → statement M
 add_spec =

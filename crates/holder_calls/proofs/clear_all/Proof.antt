@@ -8,5 +8,5 @@ returns : tie.Need-returns
 unfolding fresh_holder
 returns c = refl
 
-pub clear-all-spec : {M : Type 1} → statement M
-clear-all-spec = tie.close (tie.spec returns)
+pub clear_all_spec : {M : Type 1} → statement M
+clear_all_spec = tie.close (tie.spec returns)

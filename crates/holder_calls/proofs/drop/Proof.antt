@@ -4,14 +4,14 @@ use borrow.Author.Rules.{rules}
 use Rattle.holder_calls.proofs.drop.Statement.{statement}
 use Rattle.holder_calls.proofs.drop.Tie as tie
 
-returns : tie.Need-returns
-returns c = λ l r n. no-party _ _ c.if1.true
+returns : tie.Need-returns-then-p-ge-PARTIES
+returns c = λ l r n. no-party _ _ c.if-p-ge-PARTIES.true
 
-returns-2 : tie.Need-returns-2
-returns-2 c = λ l r n. drop-none _ _ c.before.before.if1.false c.if2.true
+returns-2 : tie.Need-returns-then-heads-at-eq0
+returns-2 c = λ l r n. drop-none _ _ c.before.before.if-p-ge-PARTIES.false c.if-heads-at-eq0.true
 
-returns-3 : tie.Need-returns-3
-returns-3 c = λ l r n. drop-done _ _ c.before.before.if1.false c.if2.false
+returns-3 : tie.Need-returns
+returns-3 c = λ l r n. drop-done _ _ c.before.before.if-p-ge-PARTIES.false c.if-heads-at-eq0.false
 
 pub drop_spec : {M : Type 1} → statement M
 drop_spec =

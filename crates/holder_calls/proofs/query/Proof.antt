@@ -7,18 +7,18 @@ use borrow.Author.Rules.{rules}
 use Rattle.holder_calls.proofs.query.Statement.{statement}
 use Rattle.holder_calls.proofs.query.Tie as tie
 
-returns : tie.Need-returns
+returns : tie.Need-returns-in-Refused
 unfolding asked_reply
-returns c = λ l n. asked-done _ _ _ _ _ c.before.before.before.slot_at.ensures _ (rw c.before.why.given.1)
+returns c = λ l n. asked-done _ _ _ _ _ c.before.before.before.slot_at.ensures _ (rw c.before.why-1.given.1)
 
-returns-2 : tie.Need-returns-2
+returns-2 : tie.Need-returns-in-Slot
 unfolding asked_reply answered
 returns-2 c =
     let slot = c.before.before.before in
     λ l n. asked-done _ _ _ _ _ slot.before.before.slot_at.ensures _
-    (c.query.ensures n slot.before.before.before.args.heads.now ∙ rw slot.slot.given.1)
+    (c.query.ensures n slot.before.before.before.args.heads.now ∙ rw slot.slot-1.given.1)
 
-pub query-spec : {M : Type 1} → statement M
-query-spec =
+pub query_spec : {M : Type 1} → statement M
+query_spec =
     tie.close
     (tie.spec (λ c κs. search rules) (λ c. search rules) (λ c. search rules) (λ c. search rules) returns returns-2)

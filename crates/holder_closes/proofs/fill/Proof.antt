@@ -12,8 +12,8 @@ returns c =
     let rows = numbers.before.before in
     let a = rows.before.before.before.args in
     λ own. filled-by own a.rows.now _ a.numbers.now _ a.heads.now _ a.slot a.anchor a.list.now a.edges
-    (spans_of (outline a.start a.letters.now)) rows.put-outline.ensures numbers.put-numbers.ensures
-    c.put-slot-head.ensures
+    (spans_of (outline a.start a.letters.now)) rows.put_outline.ensures numbers.put_numbers.ensures
+    c.put_slot_head.ensures
 
 pub fill_spec : {M : Type 1} → statement M
 fill_spec =

@@ -9,38 +9,38 @@ use Rattle.holder_closes.proofs.prepare_outline.Statement.{statement}
 use Rattle.holder_closes.proofs.prepare_outline.Tie as tie
 
 -- The places that it has passed, each from a later one
-abbrev freed : tie.After-fill → tie.After-free-tag
+abbrev freed : tie.After-fill → tie.After-free_tag-tag
 freed c = c.before.before.before.before.before
 
-abbrev found : tie.After-free-tag → tie.After-slot-of
+abbrev found : tie.After-free_tag-tag → tie.After-slot_of-own
 found c = c.before.before.before.before.before.before.before.before
 
-abbrev judged : tie.After-slot-of → tie.After-judge
+abbrev judged : tie.After-slot_of-own → tie.After-judge-verdict
 judged c = c.before.before.before.before.before.before
 
-abbrev start : tie.After-judge → tie.Start
+abbrev start : tie.After-judge-verdict → tie.Start
 start c = c.before.before.before
 
 -- The party is 0 or 1, and the tag is below five
-add-slot : tie.Need-overflow-add-slot
+add-slot : tie.Need-overflow_add-slot
 add-slot c =
     let s = start (judged (found c)) in
-    omega (arith, c.free-tag.ensures, tag_below s.args.heads.now s.args.p, s.pre.0)
+    omega (arith, c.free_tag-tag.ensures, tag_below s.args.heads.now s.args.p, s.pre.0)
 
 fill-requires : tie.Need-fill-requires
 fill-requires c κs =
     let free = c.before.before.before.before in
     let s = start (judged (found free)) in
-    omega (arith, free.free-tag.ensures, tag_below s.args.heads.now s.args.p, s.pre.0)
+    omega (arith, free.free_tag-tag.ensures, tag_below s.args.heads.now s.args.p, s.pre.0)
 
-returns : tie.Need-returns
+returns : tie.Need-returns-in-Refused
 returns c =
     let judge = c.before.before.before.before in
     let s = start judge in
     λ own. outline-refused (arrays own s.args.rows.now s.args.numbers.now s.args.heads.now) _ _ _ _
-    (judged-of _ judge.judge.ensures.0 judge.judge.ensures.1) _ c.before.verdict.given.1
+    (judged-of _ judge.judge-verdict.ensures.0 judge.judge-verdict.ensures.1) _ c.before.verdict-1.given.1
 
-returns-2 : tie.Need-returns-2
+returns-2 : tie.Need-returns-in-Taken
 returns-2 c =
     let filled = c.before.before in
     let free = freed filled in
@@ -49,12 +49,12 @@ returns-2 c =
     let judge = judged named in
     let s = start judge in
     λ own. outline-taken (arrays own s.args.rows.now s.args.numbers.now s.args.heads.now) _ _ _ _
-    (judged-of _ judge.judge.ensures.0 judge.judge.ensures.1) _ _ named.before.before.before.verdict2.given.1 _
-    named.slot_of.ensures _ (has.has.ensures s.args.rows.now) _ c.before.taken-reply.ensures _ free.free-tag.ensures _
-    c.word_of.ensures _ (filled.fill.ensures own)
+    (judged-of _ judge.judge-verdict.ensures.0 judge.judge-verdict.ensures.1) _ _ named.before.before.before.verdict-in-Taken-1.given.1 _
+    named.slot_of-own.ensures _ (has.has-same.ensures s.args.rows.now) _ c.before.taken_reply-reply.ensures _ free.free_tag-tag.ensures _
+    c.word_of-word.ensures _ (filled.fill.ensures own)
 
-pub prepare-outline-spec : {M : Type 1} → statement M
-prepare-outline-spec =
+pub prepare_outline_spec : {M : Type 1} → statement M
+prepare_outline_spec =
     tie.close
     (tie.spec (λ c. search rules) (λ c κs. search rules) (λ c. search rules) (λ c. search rules) (λ c. search rules) (λ c. search rules)
     (λ c. search rules) (λ c. search rules) (λ c. search rules) (λ c κs. search rules) (λ c κs. search rules) (λ c κs. search rules)

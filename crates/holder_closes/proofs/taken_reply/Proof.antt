@@ -2,11 +2,11 @@
 use Rattle.holder_closes.proofs.taken_reply.Statement.{statement}
 use Rattle.holder_closes.proofs.taken_reply.Tie as tie
 
-returns : tie.Need-returns
-returns c = rw c.if1.true
+returns : tie.Need-returns-then-same
+returns c = rw c.if-same.true
 
-returns-2 : tie.Need-returns-2
-returns-2 c = rw c.if1.false
+returns-2 : tie.Need-returns-else-same
+returns-2 c = rw c.if-same.false
 
-pub taken-reply-spec : {M : Type 1} → statement M
-taken-reply-spec = tie.close (tie.spec returns returns-2)
+pub taken_reply_spec : {M : Type 1} → statement M
+taken_reply_spec = tie.close (tie.spec returns returns-2)

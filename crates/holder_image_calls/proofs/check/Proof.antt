@@ -10,5 +10,5 @@ use Rattle.holder_image_calls.proofs.check.Tie as tie
 returns : tie.Need-returns
 returns c = λ l. c.put.ensures ∙ ap (λ (r : Reply). numbers_of (reply_fields r)) (c.before.before.check.ensures l)
 
-pub check-spec : {M : Type 1} → statement M
-check-spec = tie.close (tie.spec (λ c κs. search rules) (λ c κs. search rules) returns)
+pub check_spec : {M : Type 1} → statement M
+check_spec = tie.close (tie.spec (λ c κs. search rules) (λ c κs. search rules) returns)

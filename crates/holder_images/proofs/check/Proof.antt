@@ -11,8 +11,8 @@ use Rattle.holder_images.proofs.check.Statement.{statement}
 use Rattle.holder_images.proofs.check.Tie as tie
 
 -- What was found
-module _ (c : tie.After-letters2) where
-  abbrev two : tie.Else2
+module _ (c : tie.After-letters-2-1) where
+  abbrev two : tie.Else-k-ge-PLACES
   two = c.before.before.before.before.before.before
 
   abbrev start : tie.Start
@@ -27,23 +27,23 @@ module _ (c : tie.After-letters2) where
       subst (Holds (given own) start.args.party start.args.place c.before.find.new.1.1.1.1.1.0) e
       (c.before.find.ensures own)
 
-returns : tie.Need-returns
-returns c = λ own. check-no-party _ _ _ c.if1.true
+returns : tie.Need-returns-then-p-ge-PARTIES
+returns c = λ own. check-no-party _ _ _ c.if-p-ge-PARTIES.true
 
-returns-2 : tie.Need-returns-2
-returns-2 c = λ own. check-no-place _ _ c.before.if1.false _ c.if2.true
+returns-2 : tie.Need-returns-then-k-ge-PLACES
+returns-2 c = λ own. check-no-place _ _ c.before.if-p-ge-PARTIES.false _ c.if-k-ge-PLACES.true
 
-returns-3 : tie.Need-returns-3
+returns-3 : tie.Need-returns-in-Whole
 returns-3 c = λ own.
     let f = c.before.before in
-    check-whole _ _ (two f).before.if1.false _ (two f).if2.false _ _ _ (holds f _ c.enum_told.given.1 own)
+    check-whole _ _ (two f).before.if-p-ge-PARTIES.false _ (two f).if-k-ge-PLACES.false _ _ _ (holds f _ c.enum_told-1.given.1 own)
 
-returns-4 : tie.Need-returns-4
+returns-4 : tie.Need-returns-in-Damaged
 returns-4 c = λ own.
     let f = c.before.before in
-    check-damaged _ _ (two f).before.if1.false _ (two f).if2.false _ (holds f _ c.enum-told2.given.1 own)
+    check-damaged _ _ (two f).before.if-p-ge-PARTIES.false _ (two f).if-k-ge-PLACES.false _ (holds f _ c.enum_told-in-Damaged-1.given.1 own)
 
-pub check-spec : {M : Type 1} → statement M
-check-spec =
+pub check_spec : {M : Type 1} → statement M
+check_spec =
     tie.close
     (tie.spec returns returns-2 (λ c. search rules) (λ c κs. search rules) (λ c. search rules) (λ c. search rules) returns-3 returns-4)

@@ -7,10 +7,10 @@ use borrow.Author.Rules.{rules}
 use Rattle.holder_images.proofs.counted.Statement.{statement}
 use Rattle.holder_images.proofs.counted.Tie as tie
 
-mul-result : tie.Need-overflow-mul-result
+mul-result : tie.Need-overflow_mul-result
 mul-result c =
     let s = c.before.before.before in
-    omega (arith, c.wide.ensures, c.before.before.shared-slice-known.given (16 + 3 * s.args.slot + 2))
+    omega (arith, c.wide.ensures, c.before.before.shared_slice_known-1.given (16 + 3 * s.args.slot + 2))
 
 returns : tie.Need-returns
 unfolding work_at

@@ -5,7 +5,7 @@ use Rattle.holder_images.proofs.restore.Statement.{statement}
 use Rattle.holder_images.proofs.restore.Tie as tie
 
 returns : tie.Need-returns
-returns c = λ own. restore-made _ _ _ _ _ _ _ (c.before.before.prepare-image.ensures own) _ c.commit.ensures
+returns c = λ own. restore-made _ _ _ _ _ _ _ (c.before.before.prepare_image-prepared.ensures own) _ c.commit.ensures
 
-pub restore-spec : {M : Type 1} → statement M
-restore-spec = tie.close (tie.spec (λ c κs. search rules) (λ c κs. search rules) returns)
+pub restore_spec : {M : Type 1} → statement M
+restore_spec = tie.close (tie.spec (λ c κs. search rules) (λ c κs. search rules) returns)

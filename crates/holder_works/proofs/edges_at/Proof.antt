@@ -10,10 +10,10 @@ returns : tie.Need-returns
 returns c =
     let counted = c.before in
     let read = counted.before in
-    λ r. rw add-sub_cancel_left (edges-found r _ _ _ _ _ read.wide.ensures counted.number-count.ensures)
+    λ r. rw add-sub_cancel_left (edges-found r _ _ _ _ _ read.wide.ensures counted.number_count-n.ensures)
 
-pub edges-at-spec : {M : Type 1} → statement M
-edges-at-spec =
+pub edges_at_spec : {M : Type 1} → statement M
+edges_at_spec =
     tie.close
     (tie.spec (λ c. search rules) (λ c. search rules) (λ c. search rules) (λ c. search rules) (λ c. search rules) (λ c κs. search rules)
     (λ c κs. search rules) (λ c. search rules) (λ c. search rules) (λ c. search rules) (λ c. search rules) (λ c. search rules)

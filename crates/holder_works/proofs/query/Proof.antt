@@ -5,26 +5,26 @@ use borrow.Author.Rules.{rules}
 use Rattle.holder_works.proofs.query.Statement.{statement}
 use Rattle.holder_works.proofs.query.Tie as tie
 
-returns : tie.Need-returns
-returns c = λ n h. query-none _ n h _ _ c.if1.true
+returns : tie.Need-returns-then-slot-ge-SLOTS
+returns c = λ n h. query-none _ n h _ _ c.if-slot-ge-SLOTS.true
 
-returns-2 : tie.Need-returns-2
-returns-2 c = λ n h. query-bad _ n h _ _ c.before.before.if1.false (sym c.before.bad-cell.ensures ∙ c.if2.true)
+returns-2 : tie.Need-returns-then-bad_cell
+returns-2 c = λ n h. query-bad _ n h _ _ c.before.before.if-slot-ge-SLOTS.false (sym c.before.bad_cell.ensures ∙ c.if-bad_cell.true)
 
 within-requires : tie.Need-within-requires
-within-requires c κs = (search rules, row-on-chart _ (sym c.before.bad-cell.ensures ∙ c.if2.false))
+within-requires c κs = (search rules, row-on-chart _ (sym c.before.bad_cell.ensures ∙ c.if-bad_cell.false))
 
-returns-3 : tie.Need-returns-3
+returns-3 : tie.Need-returns-then-within
 returns-3 c =
     let cell = c.before.before in
-    λ n h. query-in _ n h _ _ cell.before.before.if1.false (sym cell.before.bad-cell.ensures ∙ cell.if2.false)
-    (sym c.before.within.ensures ∙ c.if3.true)
+    λ n h. query-in _ n h _ _ cell.before.before.if-slot-ge-SLOTS.false (sym cell.before.bad_cell.ensures ∙ cell.if-bad_cell.false)
+    (sym c.before.within.ensures ∙ c.if-within.true)
 
-returns-4 : tie.Need-returns-4
+returns-4 : tie.Need-returns-else-within
 returns-4 c =
     let cell = c.before.before in
-    λ n h. query-out _ n h _ _ cell.before.before.if1.false (sym cell.before.bad-cell.ensures ∙ cell.if2.false)
-    (sym c.before.within.ensures ∙ c.if3.false)
+    λ n h. query-out _ n h _ _ cell.before.before.if-slot-ge-SLOTS.false (sym cell.before.bad_cell.ensures ∙ cell.if-bad_cell.false)
+    (sym c.before.within.ensures ∙ c.if-within.false)
 
-pub query-spec : {M : Type 1} → statement M
-query-spec = tie.close (tie.spec returns (λ c κs. search rules) returns-2 within-requires returns-3 returns-4)
+pub query_spec : {M : Type 1} → statement M
+query_spec = tie.close (tie.spec returns (λ c κs. search rules) returns-2 within-requires returns-3 returns-4)

@@ -5,15 +5,15 @@ use borrow.Author.Rules.{rules}
 use Rattle.holder_written.proofs.of_draft.Statement.{statement}
 use Rattle.holder_written.proofs.of_draft.Tie as tie
 
-returns : tie.Need-returns
+returns : tie.Need-returns-in-Refused
 unfolding draft_fields
-returns c = c.of-refusal.ensures ∙ rw c.before.before.d.given.1
+returns c = c.of_refusal.ensures ∙ rw c.before.before.d-1.given.1
 
-returns-2 : tie.Need-returns-2
+returns-2 : tie.Need-returns-in-Open
 unfolding draft_fields
-returns-2 c = c.accepted.ensures ∙ rw c.before.before.d2.given.1
+returns-2 c = c.accepted.ensures ∙ rw c.before.before.d-in-Open-1.given.1
 
-pub of-draft-spec : {M : Type 1} → statement M
-of-draft-spec =
+pub of_draft_spec : {M : Type 1} → statement M
+of_draft_spec =
     tie.close
     (tie.spec (λ c. search rules) (λ c κs. search rules) (λ c. search rules) (λ c κs. search rules) returns returns-2)

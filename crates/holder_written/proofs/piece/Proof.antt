@@ -14,15 +14,15 @@ returns c =
     let wrote = fields.before in
     let read = wrote.before.before in
     let answered = read.before in (
-      λ l r. done-by _ _ _ _ (answered.piece.ensures l r) _ (c.put.ensures ∙ ap numbers_of fields.of-reply.ensures),
+      λ l r. done-by _ _ _ _ (answered.piece-answer.ensures l r) _ (c.put.ensures ∙ ap numbers_of fields.of_reply.ensures),
       (
-        λ l r. point-by _ _ _ _ (answered.piece.ensures l r) _ read.piece-in.ensures _ _ wrote.write-point.ensures,
-        piece-told _ _ _ _ _ _ (answered.piece.ensures [] []) _ fields.of-reply.ensures (omega (arith, fields.of-reply.type-inv))
-            (omega (arith, fields.of-reply.type-inv)) _ read.piece-in.ensures _ _ wrote.write-point.ensures _ c.put.ensures,
+        λ l r. point-by _ _ _ _ (answered.piece-answer.ensures l r) _ read.piece_in.ensures _ _ wrote.write_point.ensures,
+        piece-told _ _ _ _ _ _ (answered.piece-answer.ensures [] []) _ fields.of_reply.ensures (omega (arith, fields.of_reply.type-inv))
+            (omega (arith, fields.of_reply.type-inv)) _ read.piece_in.ensures _ _ wrote.write_point.ensures _ c.put.ensures,
       ),
     )
 
-pub piece-spec : {M : Type 1} → statement M
-piece-spec =
+pub piece_spec : {M : Type 1} → statement M
+piece_spec =
     tie.close
     (tie.spec (λ c κs. search rules) (λ c κs. search rules) (λ c κs. search rules) (λ c κs. search rules) (λ c κs. search rules) returns)

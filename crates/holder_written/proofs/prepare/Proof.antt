@@ -9,8 +9,8 @@ use Rattle.holder_written.proofs.prepare.Tie as tie
 returns : tie.Need-returns
 returns c =
     let fields = c.before.before in
-    let half = prepared-by _ _ _ _ _ _ fields.before.prepare.ensures _ (c.put.ensures ∙ ap numbers_of fields.of-reply.ensures) in
+    let half = prepared-by _ _ _ _ _ _ fields.before.prepare-prepared.ensures _ (c.put.ensures ∙ ap numbers_of fields.of_reply.ensures) in
     (half, prepared-told _ _ _ _ _ _ half)
 
-pub prepare-spec : {M : Type 1} → statement M
-prepare-spec = tie.close (tie.spec (λ c κs. search rules) (λ c κs. search rules) (λ c κs. search rules) returns)
+pub prepare_spec : {M : Type 1} → statement M
+prepare_spec = tie.close (tie.spec (λ c κs. search rules) (λ c κs. search rules) (λ c κs. search rules) returns)

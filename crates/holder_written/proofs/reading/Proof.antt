@@ -11,5 +11,5 @@ returns c = (
       (done-by _ _ _ _ (c.before.before.reading.ensures l r) _ c.put_word.ensures),
 )
 
-pub reading-spec : {M : Type 1} → statement M
-reading-spec = tie.close (tie.spec (λ c κs. search rules) (λ c κs. search rules) returns)
+pub reading_spec : {M : Type 1} → statement M
+reading_spec = tie.close (tie.spec (λ c κs. search rules) (λ c κs. search rules) returns)

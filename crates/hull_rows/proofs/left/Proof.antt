@@ -9,16 +9,16 @@ use native.Mathlib.Omega.{arith}
 use Rattle.hull_rows.proofs.left.Statement.{statement}
 use Rattle.hull_rows.proofs.left.Tie as tie
 
-abbrev invariant-loop : tie.invariant-loop
+abbrev invariant-loop : tie.invariant-loop-r
 invariant-loop lo₀ b t next i₀ r₀ lo i r = (fits : t ≤ 256) × Leftward (rows lo₀) b t fits lo i r
 
-abbrev decreases-loop : tie.decreases-loop
+abbrev decreases-loop : tie.decreases-loop-r
 decreases-loop lo₀ b t next i₀ r₀ lo i r = t - r
 
-tangents-requires : tie.Need-tangents-requires invariant-loop decreases-loop
+tangents-requires : tie.Need-tangents-next-requires invariant-loop decreases-loop
 tangents-requires c κs = omega (arith, c.before.requires)
 
-loop-holds : tie.Need-loop-init invariant-loop decreases-loop
+loop-holds : tie.Need-loop-r-init invariant-loop decreases-loop
 loop-holds c =
     let args = c.before.before.args in
     let fits : args.t ≤ 256 = omega (arith, c.before.before.requires) in (
@@ -27,89 +27,89 @@ loop-holds c =
           c.before.before.requires.1 (λ s. refl),
     )
 
-edge-start-requires : tie.Need-edge-start-requires invariant-loop decreases-loop
-edge-start-requires c κs = let iteration = c.before.before.loop.invariant in
+edge-start-requires : tie.Need-edge_start-i-requires invariant-loop decreases-loop
+edge-start-requires c κs = let iteration = c.before.before.loop-r.invariant in
     omega (arith, iteration.1.climbing.above, iteration.1.high, iteration.0)
 
 -- The edge that is found goes across the current row
-record Found (c : tie.After-edge-start invariant-loop decreases-loop) : Type 0 where
-  low : c.before.before.before.before.before.before.args.b ≤ c.edge-start.result
-  high : suc c.edge-start.result < c.before.before.before.before.before.before.args.t
+record Found (c : tie.After-edge_start-i invariant-loop decreases-loop) : Type 0 where
+  low : c.before.before.before.before.before.before.args.b ≤ c.edge_start-i.result
+  high : suc c.edge_start-i.result < c.before.before.before.before.before.before.args.t
   spans : Spanning (rows c.before.before.before.before.before.before.args.lo.now)
       c.before.before.before.before.before.before.args.b c.before.before.before.before.before.before.args.t
-      c.edge-start.result c.before.before.before.loop.r
-  corner : rows c.before.before.before.loop.lo c.edge-start.result
-      ≡ rows c.before.before.before.before.before.before.args.lo.now c.edge-start.result
+      c.edge_start-i.result c.before.before.before.loop-r.r
+  corner : rows c.before.before.before.loop-r.lo c.edge_start-i.result
+      ≡ rows c.before.before.before.before.before.before.args.lo.now c.edge_start-i.result
 
-found : (c : tie.After-edge-start invariant-loop decreases-loop) → Found c
+found : (c : tie.After-edge_start-i invariant-loop decreases-loop) → Found c
 found c =
     let args = c.before.before.before.before.before.before.args in
     let start = rows args.lo.now in
-    let iteration = c.before.before.before.loop in
+    let iteration = c.before.before.before.loop-r in
     let climbing = iteration.invariant.1.climbing in
     let next =
-    c.before.before.before.before.tangents.ensures.furthest_left iteration.i climbing.climbed.low
+    c.before.before.before.before.tangents-next.ensures.furthest_left iteration.i climbing.climbed.low
     (omega (arith, climbing.above)) in
-    let l : iteration.r < args.t = c.before.before.loop-test.true in
+    let l : iteration.r < args.t = c.before.before.loop-r-test.true in
     let s =
-    climbing-edge start args.b args.t iteration.i iteration.r _ c.edge-start.result climbing l next
-    c.edge-start.ensures in
+    climbing-edge start args.b args.t iteration.i iteration.r _ c.edge_start-i.result climbing l next
+    c.edge_start-i.ensures in
     record {
-      low = spanning-low start args.b args.t c.edge-start.result iteration.r s l;
-      high = spanning-two start args.b args.t c.edge-start.result iteration.r s l;
+      low = spanning-low start args.b args.t c.edge_start-i.result iteration.r s l;
+      high = spanning-two start args.b args.t c.edge_start-i.result iteration.r s l;
       spans = s;
       corner =
           leftward-corner start args.b args.t iteration.invariant.0 iteration.lo iteration.i iteration.r iteration.invariant.1 l
-          c.edge-start.result _ next c.edge-start.ensures;
+          c.edge_start-i.result _ next c.edge_start-i.ensures;
     }
 
 -- The row that is read is the one where it ends
-record Read (c : tie.After-wide invariant-loop decreases-loop) : Type 0 where
-  ends : (c.before.edge-start.result < c.before.before.before.before.loop.r)
-      × (c.before.before.before.before.loop.r ≤ c.wide.result)
-      × (c.wide.result < c.before.before.before.before.before.before.before.args.t)
-  at : c.wide.result ≡ next_row (rows c.before.before.before.before.before.before.before.args.lo.now)
-      c.before.before.before.before.before.before.before.args.t c.before.edge-start.result
+record Read (c : tie.After-wide-j invariant-loop decreases-loop) : Type 0 where
+  ends : (c.before.edge_start-i.result < c.before.before.before.before.loop-r.r)
+      × (c.before.before.before.before.loop-r.r ≤ c.wide-j.result)
+      × (c.wide-j.result < c.before.before.before.before.before.before.before.args.t)
+  at : c.wide-j.result ≡ next_row (rows c.before.before.before.before.before.before.before.args.lo.now)
+      c.before.before.before.before.before.before.before.args.t c.before.edge_start-i.result
 
-read : (c : tie.After-wide invariant-loop decreases-loop) → Read c
+read : (c : tie.After-wide-j invariant-loop decreases-loop) → Read c
 read c =
     let f = found c.before in
     let args = c.before.before.before.before.before.before.before.args in
-    let e = c.wide.ensures.0
-    ∙ c.before.before.before.before.before.tangents.ensures.furthest_left c.before.edge-start.result f.low f.high in
+    let e = c.wide-j.ensures.0
+    ∙ c.before.before.before.before.before.tangents-next.ensures.furthest_left c.before.edge_start-i.result f.low f.high in
     record {
       ends =
-          spanning-end (rows args.lo.now) args.b args.t c.before.edge-start.result
-          c.before.before.before.before.loop.r f.spans c.before.before.before.loop-test.true c.wide.result e;
+          spanning-end (rows args.lo.now) args.b args.t c.before.edge_start-i.result
+          c.before.before.before.before.loop-r.r f.spans c.before.before.before.loop-r-test.true c.wide-j.result e;
       at = e;
     }
 
-mul_wide : tie.Need-overflow-mul-wide invariant-loop decreases-loop
-mul_wide c = omega (arith, (found c).high, c.before.before.before.loop.invariant.0)
+mul_wide : tie.Need-offset_bounds-next-i invariant-loop decreases-loop
+mul_wide c = omega (arith, (found c).high, c.before.before.before.loop-r.invariant.0)
 
-array-read-wide : tie.Need-array-read-wide invariant-loop decreases-loop
-array-read-wide c = omega (arith, (found c).high, c.before.before.before.loop.invariant.0)
+array-read-wide : tie.Need-bounds-next-i invariant-loop decreases-loop
+array-read-wide c = omega (arith, (found c).high, c.before.before.before.loop-r.invariant.0)
 
-crossing-requires : tie.Need-crossing-requires invariant-loop decreases-loop
-crossing-requires c κs = omega (arith, (read c.before).ends, c.before.before.before.before.before.loop.invariant.0)
+crossing-requires : tie.Need-crossing-column-requires invariant-loop decreases-loop
+crossing-requires c κs = omega (arith, (read c.before).ends, c.before.before.before.before.before.loop-r.invariant.0)
 
-loop-again : tie.Need-loop-preserved invariant-loop decreases-loop
+loop-again : tie.Need-loop-r-preserved invariant-loop decreases-loop
 loop-again c =
     let f = found c.before.before.before in
     let args = c.before.before.before.before.before.before.before.before.before.args in
-    let iteration = c.before.before.before.before.before.before.loop in (
+    let iteration = c.before.before.before.before.before.before.loop-r in (
       iteration.invariant.0,
       leftward-next (rows args.lo.now) args.b args.t iteration.invariant.0 iteration.lo iteration.i iteration.r
-          iteration.invariant.1 c.before.before.before.before.before.loop-test.true c.before.before.before.edge-start.result
-          f.spans c.before.before.wide.result c.crossing.result f.corner (read c.before.before).at
-          c.crossing.ensures.0,
+          iteration.invariant.1 c.before.before.before.before.before.loop-r-test.true c.before.before.before.edge_start-i.result
+          f.spans c.before.before.wide-j.result c.crossing-column.result f.corner (read c.before.before).at
+          c.crossing-column.ensures.0,
     )
 
 returns : tie.Need-returns invariant-loop decreases-loop
-returns c = record { ends = λ r h l. c.before.loop.invariant.1.passed r h (omega (arith, c.before.loop.invariant.1.high)) }
+returns c = record { ends = λ r h l. c.before.loop-r.invariant.1.passed r h (omega (arith, c.before.loop-r.invariant.1.high)) }
 
-pub left-spec : {M : Type 1} → statement M
-left-spec =
+pub left_spec : {M : Type 1} → statement M
+left_spec =
     tie.close
     (tie.spec invariant-loop decreases-loop tangents-requires (λ c. omega arith) loop-holds edge-start-requires mul_wide array-read-wide
     (λ c κs. omega arith) crossing-requires (λ c. omega arith) (λ c. omega arith) (λ c. omega arith) (λ c. omega arith) (λ c. omega arith)

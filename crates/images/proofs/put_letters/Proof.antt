@@ -10,23 +10,23 @@ use Rattle.images.specs.Image.{header, image_bytes}
 use Rattle.images.proofs.put_letters.Statement.{statement}
 use Rattle.images.proofs.put_letters.Tie as tie
 
-abbrev invariant-loop : tie.invariant-loop
+abbrev invariant-loop : tie.invariant-loop-i
 invariant-loop letters image₀ i₀ image i =
     (i ≤ length letters) × (length image ≡ image_bytes) × ((k : ℕ) → k < header → get_or image k 0 ≡ get_or image₀ k 0)
     × ((k : ℕ) → k < i → get_or image (header + k) 0 ≡ get_or letters k 0)
 
-abbrev decreases-loop : tie.decreases-loop
+abbrev decreases-loop : tie.decreases-loop-i
 decreases-loop letters image₀ i₀ image i = length letters - i
 
-loop-holds : tie.Need-loop-init invariant-loop decreases-loop
+loop-holds : tie.Need-loop-i-init invariant-loop decreases-loop
 loop-holds c = (search rules, c.requires.0, λ k l. refl, λ k l. absurd (omega arith))
 
-slice-write-image : tie.Need-slice-write-image invariant-loop decreases-loop
-slice-write-image c = omega (arith, c.before.before.loop.invariant.1, c.before.before.before.requires.1)
+slice-write-image : tie.Need-bounds-image-i invariant-loop decreases-loop
+slice-write-image c = omega (arith, c.before.before.loop-i.invariant.1, c.before.before.before.requires.1)
 
-loop-again : tie.Need-loop-preserved invariant-loop decreases-loop
+loop-again : tie.Need-loop-i-preserved invariant-loop decreases-loop
 loop-again c =
-    let l = c.before.before.loop in
+    let l = c.before.before.loop-i in
     let s = c.before.before.before in
     let v = get_or s.args.letters.now l.i 0 in (
       omega arith,
@@ -36,14 +36,14 @@ loop-again c =
           (get_or-set_same l.image (6 + l.i) v 0 (slice-write-image c)),
     )
 
-same_length : tie.Need-same-length invariant-loop decreases-loop
-same_length c = c.before.loop.invariant.1 ∙ sym c.before.before.requires.0
+same_length : tie.Need-shape_of-image invariant-loop decreases-loop
+same_length c = c.before.loop-i.invariant.1 ∙ sym c.before.before.requires.0
 
 returns : tie.Need-returns invariant-loop decreases-loop
-returns c = (c.before.loop.invariant.1, c.before.loop.invariant.2, λ k l. c.before.loop.invariant.3 k (omega arith))
+returns c = (c.before.loop-i.invariant.1, c.before.loop-i.invariant.2, λ k l. c.before.loop-i.invariant.3 k (omega arith))
 
-pub put-letters-spec : {M : Type 1} → statement M
-put-letters-spec =
+pub put_letters_spec : {M : Type 1} → statement M
+put_letters_spec =
     tie.close
     (tie.spec invariant-loop decreases-loop loop-holds (λ c. search rules) (λ c. search rules) slice-write-image (λ c. search rules) (λ c. search rules)
     loop-again same_length returns)

@@ -5,7 +5,7 @@ use Rattle.judge.proofs.judgement.Statement.{statement}
 use Rattle.judge.proofs.judgement.Tie as tie
 
 returns : tie.Need-returns
-returns c = judged-of _ c.before.judge.ensures.0 c.before.judge.ensures.1
+returns c = judged-of _ c.before.judge-verdict.ensures.0 c.before.judge-verdict.ensures.1
 
-pub judgement-spec : {M : Type 1} → statement M
-judgement-spec = tie.close (tie.spec (λ c. search rules) (λ c κs. search rules) returns)
+pub judgement_spec : {M : Type 1} → statement M
+judgement_spec = tie.close (tie.spec (λ c. search rules) (λ c κs. search rules) returns)

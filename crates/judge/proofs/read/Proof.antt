@@ -10,11 +10,11 @@ use Rattle.judge.proofs.read.Statement.{statement}
 use Rattle.judge.proofs.read.Tie as tie
 
 -- The letters from W on, clockwise, are in the buffer
-copied : (c : tie.After-fill-round)
+copied : (c : tie.After-fill_round)
     → let cuts = c.before.before.before.before in
     let start = cuts.before.before in
-    Copied (outline start.args.start start.args.letters.now) start.args.found cuts.cut-places.result
-    c.before.before.read-place.result c.fill-round.new.1.1.1.0
+    Copied (outline start.args.start start.args.letters.now) start.args.found cuts.cut_places-cuts.result
+    c.before.before.read_place-place.result c.fill_round.new.1.1.1.0
 copied c =
     let place = c.before.before in
     let cuts = place.before.before in
@@ -23,16 +23,16 @@ copied c =
     record {
       simple = start.requires.0;
       corners = start.requires.1;
-      cuts-of = rw (cuts.cut-places.ensures, start.requires.1) (cuts-of o start.requires.0);
-      place = place.read-place.ensures;
-      letters = c.fill-round.ensures;
-      sized = c.fill-round.auto.1.1.1.0;
+      cuts-of = rw (cuts.cut_places-cuts.ensures, start.requires.1) (cuts-of o start.requires.0);
+      place = place.read_place-place.ensures;
+      letters = c.fill_round.ensures;
+      sized = c.fill_round.auto.1.1.1.0;
     }
 
-array-share-prefix-ring : tie.Need-array-share-prefix-ring
-array-share-prefix-ring c = let fit = letters-fit (copied c.before) in omega (arith, c.before.fill-round.auto.1.1.1.0)
+array-share-prefix-ring : tie.Need-slice_bounds-ring-end
+array-share-prefix-ring c = let fit = letters-fit (copied c.before) in omega (arith, c.before.fill_round.auto.1.1.1.0)
 
-slice-aggregate-pieces : tie.Need-slice-aggregate-pieces
+slice-aggregate-pieces : tie.Need-slice_bounds-pieces-end
 slice-aggregate-pieces c = sym (length-take-le _ _ (letters-fit (copied c.before.before)))
 
 pieces-requires : tie.Need-pieces-requires

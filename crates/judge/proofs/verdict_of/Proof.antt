@@ -10,18 +10,18 @@ use Rattle.judge.proofs.verdict_of.Tie as tie
 read-requires : tie.Need-read-requires
 read-requires c κs =
     let told = c.before.before in
-    let passed = sym told.before.before.survey.ensures ∙ told.surveyed2.given.1 in
+    let passed = sym told.before.before.survey-surveyed.ensures ∙ told.surveyed-in-Passed-1.given.1 in
     (survey-simple _ passed, survey-corners _ passed)
 
-returns : tie.Need-returns
-returns c = (stopped-outcome _ (sym c.before.before.before.survey.ensures ∙ c.before.surveyed.given.1) []).verdict
+returns : tie.Need-returns-in-Refused
+returns c = (stopped-outcome _ (sym c.before.before.before.survey-surveyed.ensures ∙ c.before.surveyed-1.given.1) []).verdict
 
-returns-2 : tie.Need-returns-2
+returns-2 : tie.Need-returns-in-Passed
 returns-2 c =
     let told = c.before.before.before.before in
-    (passed-outcome _ (sym told.before.before.survey.ensures ∙ told.surveyed2.given.1) c.before.read.ensures).verdict
+    (passed-outcome _ (sym told.before.before.survey-surveyed.ensures ∙ told.surveyed-in-Passed-1.given.1) c.before.read.ensures).verdict
 
-pub verdict-of-spec : {M : Type 1} → statement M
-verdict-of-spec =
+pub verdict_of_spec : {M : Type 1} → statement M
+verdict_of_spec =
     tie.close
     (tie.spec (λ c κs. search rules) (λ c. search rules) (λ c. search rules) (λ c. search rules) read-requires returns returns-2)

@@ -9,11 +9,11 @@ use Rattle.live_sections.proofs.clear_after.Tie as tie
 same-requires : tie.Need-same-requires
 same-requires c κs = (c.requires.1, c.requires.2)
 
-returns : tie.Need-returns
-returns c = sym (ap clear_of (c.before.same.ensures c.if1.true) ∙ c.before.before.requires.0)
+returns : tie.Need-returns-then-same
+returns c = sym (ap clear_of (c.before.same.ensures c.if-same.true) ∙ c.before.before.requires.0)
 
-returns-2 : tie.Need-returns-2
-returns-2 c = clear-is _ _ c.is-clear.ensures
+returns-2 : tie.Need-returns
+returns-2 c = clear-is _ _ c.is_clear.ensures
 
-pub clear-after-spec : {M : Type 1} → statement M
-clear-after-spec = tie.close (tie.spec same-requires returns (λ c κs. search rules) returns-2)
+pub clear_after_spec : {M : Type 1} → statement M
+clear_after_spec = tie.close (tie.spec same-requires returns (λ c κs. search rules) returns-2)

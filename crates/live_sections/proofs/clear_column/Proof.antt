@@ -9,7 +9,7 @@ use Rattle.live_sections.proofs.clear_column.Tie as tie
 
 returns : tie.Need-returns
 unfolding column_clear
-returns c = c.is-clear.ensures ∙ ap (λ (s : Section). clear (numbers s.lo) (numbers s.past)) c.before.column.ensures
+returns c = c.is_clear.ensures ∙ ap (λ (s : Section). clear (numbers s.lo) (numbers s.past)) c.before.column.ensures
 
-pub clear-column-spec : {M : Type 1} → statement M
-clear-column-spec = tie.close (tie.spec (λ c κs. search rules) (λ c κs. search rules) returns)
+pub clear_column_spec : {M : Type 1} → statement M
+clear_column_spec = tie.close (tie.spec (λ c κs. search rules) (λ c κs. search rules) returns)

@@ -9,7 +9,7 @@ use Rattle.live_sections.proofs.clear_row.Tie as tie
 
 returns : tie.Need-returns
 unfolding row_clear
-returns c = c.is-clear.ensures ∙ ap (λ (s : Section). clear (numbers s.lo) (numbers s.past)) c.before.row.ensures
+returns c = c.is_clear.ensures ∙ ap (λ (s : Section). clear (numbers s.lo) (numbers s.past)) c.before.row.ensures
 
-pub clear-row-spec : {M : Type 1} → statement M
-clear-row-spec = tie.close (tie.spec (λ c κs. search rules) (λ c κs. tt) returns)
+pub clear_row_spec : {M : Type 1} → statement M
+clear_row_spec = tie.close (tie.spec (λ c κs. search rules) (λ c κs. tt) returns)

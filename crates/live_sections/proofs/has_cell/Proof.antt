@@ -9,5 +9,5 @@ returns : tie.Need-returns
 unfolding has_cell
 returns c = refl
 
-pub has-cell-spec : {M : Type 1} → statement M
-has-cell-spec = tie.close (tie.spec (λ c. search rules) (λ c. search rules) returns)
+pub has_cell_spec : {M : Type 1} → statement M
+has_cell_spec = tie.close (tie.spec (λ c. search rules) (λ c. search rules) returns)

@@ -10,13 +10,13 @@ use Rattle.live_sections.proofs.ReachLaws.{search-start, search-end}
 use Rattle.live_sections.proofs.lowest.Statement.{statement}
 use Rattle.live_sections.proofs.lowest.Tie as tie
 
-abbrev invariant-loop : tie.invariant-loop
+abbrev invariant-loop : tie.invariant-loop-r
 invariant-loop begins ends col from to r₀ end r = (r ≤ side) × (first (λ k. in_row begins ends col k) r ≡ r)
 
-abbrev decreases-loop : tie.decreases-loop
+abbrev decreases-loop : tie.decreases-loop-r
 decreases-loop begins ends col from to r₀ end r = end - r
 
-loop-holds : tie.Need-loop-init invariant-loop decreases-loop
+loop-holds : tie.Need-loop-r-init invariant-loop decreases-loop
 loop-holds c =
     let a = c.before.before.args in
     (omega arith, search-start a.first.now a.past.now a.col a.from c.before.before.requires.2)
@@ -24,25 +24,25 @@ loop-holds c =
 holds-requires : tie.Need-holds-requires invariant-loop decreases-loop
 holds-requires c κs = (omega arith, c.before.before.before.before.requires.0, c.before.before.before.before.requires.1)
 
-returns : tie.Need-returns invariant-loop decreases-loop
+returns : tie.Need-returns-then-holds invariant-loop decreases-loop
 returns c =
-    let at = c.before.before.before.loop in
-    sym (first-stop _ side at.r at.invariant.1 (sym c.before.holds.ensures ∙ c.if1.true) (omega arith))
+    let at = c.before.before.before.loop-r in
+    sym (first-stop _ side at.r at.invariant.1 (sym c.before.holds.ensures ∙ c.if-holds.true) (omega arith))
 
-loop-again : tie.Need-loop-preserved invariant-loop decreases-loop
+loop-again : tie.Need-loop-r-preserved invariant-loop decreases-loop
 loop-again c =
-    let at = c.before.before.before.loop in
-    (omega arith, first_step _ at.r at.invariant.1 (sym c.before.holds.ensures ∙ c.if1.false))
+    let at = c.before.before.before.loop-r in
+    (omega arith, first_step _ at.r at.invariant.1 (sym c.before.holds.ensures ∙ c.if-holds.false))
 
-returns-2 : tie.Need-returns-2 invariant-loop decreases-loop
+returns-2 : tie.Need-returns invariant-loop decreases-loop
 returns-2 c =
-    let at = c.before.loop in
+    let at = c.before.loop-r in
     let start = c.before.before.before.before in
     let a = start.args in
-    sym (search-end a.first.now a.past.now a.col at.r a.to at.invariant.1 c.loop-test.false start.requires.3)
+    sym (search-end a.first.now a.past.now a.col at.r a.to at.invariant.1 c.loop-r-test.false start.requires.3)
 
-pub lowest-spec : {M : Type 1} → statement M
-lowest-spec =
+pub lowest_spec : {M : Type 1} → statement M
+lowest_spec =
     tie.close
     (tie.spec invariant-loop decreases-loop loop-holds (λ c. omega arith) holds-requires (λ c. omega arith) returns (λ c. omega arith)
     (λ c. omega arith) loop-again returns-2)

@@ -15,5 +15,5 @@ returns c =
     let enough = length-drop a.from a.rows.now in
     rw add-sub_cancel_left (refl, length-take-le side (drop a.from a.rows.now) (omega (arith, enough, c.before.requires.1)))
 
-pub part-spec : {M : Type 1} → statement M
-part-spec = tie.close (tie.spec (λ c. search rules) (λ c. search rules) (λ c. search rules) (λ c. search rules) returns)
+pub part_spec : {M : Type 1} → statement M
+part_spec = tie.close (tie.spec (λ c. search rules) (λ c. search rules) (λ c. search rules) (λ c. search rules) returns)

@@ -12,33 +12,33 @@ use Rattle.live_sections.proofs.LayerLaws.{row_first, row-past}
 use Rattle.live_sections.proofs.row.Statement.{statement}
 use Rattle.live_sections.proofs.row.Tie as tie
 
-abbrev invariant-loop : tie.invariant-loop
+abbrev invariant-loop : tie.invariant-loop-l
 invariant-loop rows r lo₀ past₀ l₀ lo past l =
     Filling (λ k. row_of (layer_at (layers_of rows) k).first r) (λ k. row_of (layer_at (layers_of rows) k).past r) lo past l
 
-abbrev decreases-loop : tie.decreases-loop
+abbrev decreases-loop : tie.decreases-loop-l
 decreases-loop rows r lo₀ past₀ l₀ lo past l = layers - l
 
-loop-holds : tie.Need-loop-init invariant-loop decreases-loop
+loop-holds : tie.Need-loop-l-init invariant-loop decreases-loop
 loop-holds c = filling-start _ _
 
-loop-again : tie.Need-loop-preserved invariant-loop decreases-loop
+loop-again : tie.Need-loop-l-preserved invariant-loop decreases-loop
 loop-again c =
     let iteration = c.before.before in
-    let at = iteration.before.loop in
+    let at = iteration.before.loop-l in
     let start = iteration.before.before in
     let rows = start.args.rows.now in
     let r = start.args.r in
-    let in-range : at.l < layers = iteration.loop-test.true in
+    let in-range : at.l < layers = iteration.loop-l-test.true in
     filling-next _ _ at.invariant in-range _ _ (sym (row_first rows at.l in-range r start.requires.0))
     (sym (row-past rows at.l in-range r start.requires.0))
 
 returns : tie.Need-returns invariant-loop decreases-loop
 unfolding row_section
-returns c = filling-end _ _ c.before.loop.invariant c.loop-test.false
+returns c = filling-end _ _ c.before.loop-l.invariant c.loop-l-test.false
 
-pub row-spec : {M : Type 1} → statement M
-row-spec =
+pub row_spec : {M : Type 1} → statement M
+row_spec =
     tie.close
     (tie.spec invariant-loop decreases-loop loop-holds (λ c. search rules) (λ c. search rules) (λ c. search rules) (λ c. search rules)
     (λ c. search rules) (λ c. search rules) (λ c. search rules) (λ c. search rules) (λ c. omega arith) loop-again returns)

@@ -18,9 +18,9 @@ returns : tie.Need-returns
 returns c =
     let named = c.before.before in
     let asked = named.before in
-    let said = named.of-reply.ensures ∙ ap reply_fields asked.located.ensures in (
+    let said = named.of_reply.ensures ∙ ap reply_fields asked.located-reply_of.ensures in (
       c.put.ensures ∙ ap numbers_of said,
-      rw (c.put.ensures, read_back named.of-reply.result, said) (reading-named _ _ _ (held asked.before)),
+      rw (c.put.ensures, read_back named.of_reply.result, said) (reading-named _ _ _ (held asked.before)),
     )
 
 pub read_spec : {M : Type 1} → statement M

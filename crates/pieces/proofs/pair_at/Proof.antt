@@ -44,15 +44,15 @@ last_frame (suc zero) h = absurd (omega arith)
 last_frame (suc (suc zero)) h = absurd (omega arith)
 last_frame (suc (suc (suc k))) h = refl
 
-returns : tie.Need-returns
+returns : tie.Need-returns-then-k-lt4
 unfolding frame_of
 returns c =
     table_at _ (row_of (frame_of 0)) (row_of (frame_of 1)) (row_of (frame_of 2)) (row_of (frame_of 3)) c.before.before.args.k
     (search rules)
 
-returns-2 : tie.Need-returns-2
+returns-2 : tie.Need-returns-else-k-lt4
 unfolding frame_of
 returns-2 c = rw (last_frame c.before.before.args.k (omega arith)) (row_of (frame_of 3))
 
-pub pair-at-spec : {M : Type 1} → statement M
-pair-at-spec = tie.close (tie.spec (λ c. search rules) (λ c. search rules) (λ c. search rules) returns returns-2)
+pub pair_at_spec : {M : Type 1} → statement M
+pair_at_spec = tie.close (tie.spec (λ c. search rules) (λ c. search rules) (λ c. search rules) returns returns-2)

@@ -9,5 +9,5 @@ returns : tie.Need-returns
 unfolding fresh_pile
 returns c = ap (arrays _) c.before.unpass.ensures.0
 
-pub clear-all-spec : {M : Type 1} → statement M
-clear-all-spec = tie.close (tie.spec (λ c κs. search rules) returns)
+pub clear_all_spec : {M : Type 1} → statement M
+clear_all_spec = tie.close (tie.spec (λ c κs. search rules) returns)

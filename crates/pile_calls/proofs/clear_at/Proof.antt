@@ -5,16 +5,16 @@ use borrow.Author.Rules.{rules}
 use Rattle.pile_calls.proofs.clear_at.Statement.{statement}
 use Rattle.pile_calls.proofs.clear_at.Tie as tie
 
-clear-column-requires : tie.Need-clear-column-requires
-clear-column-requires c κs = (search rules, c.before.before.requires.2 c.if1.true)
+clear-column-requires : tie.Need-clear_column-requires
+clear-column-requires c κs = (search rules, c.before.before.requires.2 c.if-k-lt-SIDE.true)
 
-returns : tie.Need-returns
-returns c = c.clear-column.ensures ∙ clear-column _ _ c.before.if1.true
+returns : tie.Need-returns-then-k-lt-SIDE
+returns c = c.clear_column.ensures ∙ clear-column _ _ c.before.if-k-lt-SIDE.true
 
-returns-2 : tie.Need-returns-2
-returns-2 c = c.clear-row.ensures ∙ clear-row _ _ c.before.if1.false
+returns-2 : tie.Need-returns-else-k-lt-SIDE
+returns-2 c = c.clear_row.ensures ∙ clear-row _ _ c.before.if-k-lt-SIDE.false
 
-pub clear-at-spec : {M : Type 1} → statement M
-clear-at-spec =
+pub clear_at_spec : {M : Type 1} → statement M
+clear_at_spec =
     tie.close
     (tie.spec (λ c. search rules) clear-column-requires (λ c. search rules) (λ c κs. search rules) returns returns-2)

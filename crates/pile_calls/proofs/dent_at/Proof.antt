@@ -3,11 +3,11 @@ use Rattle.pile_calls.proofs.StepCases.{dent-column, dent-row}
 use Rattle.pile_calls.proofs.dent_at.Statement.{statement}
 use Rattle.pile_calls.proofs.dent_at.Tie as tie
 
-returns : tie.Need-returns
-returns c = dent-column _ c.if1.true
+returns : tie.Need-returns-then-k-lt-SIDE
+returns c = dent-column _ c.if-k-lt-SIDE.true
 
-returns-2 : tie.Need-returns-2
-returns-2 c = dent-row _ c.if1.false
+returns-2 : tie.Need-returns-else-k-lt-SIDE
+returns-2 c = dent-row _ c.if-k-lt-SIDE.false
 
-pub dent-at-spec : {M : Type 1} → statement M
-dent-at-spec = tie.close (tie.spec returns returns-2)
+pub dent_at_spec : {M : Type 1} → statement M
+dent_at_spec = tie.close (tie.spec returns returns-2)

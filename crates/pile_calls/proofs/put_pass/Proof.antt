@@ -8,5 +8,5 @@ use Rattle.pile_calls.proofs.put_pass.Tie as tie
 returns : tie.Need-returns
 returns c = position-then-word c.args.state.now c.requires _ 0
 
-pub put-pass-spec : {M : Type 1} → statement M
-put-pass-spec = tie.close (tie.spec (λ c. search rules) (λ c. search rules) (λ c. simp length-set) returns)
+pub put_pass_spec : {M : Type 1} → statement M
+put_pass_spec = tie.close (tie.spec (λ c. search rules) (λ c. search rules) (λ c. simp length-set) returns)

@@ -4,11 +4,11 @@ use native.Mathlib.Omega.{arith}
 use Rattle.pile_calls.proofs.tested_at.Statement.{statement}
 use Rattle.pile_calls.proofs.tested_at.Tie as tie
 
-returns : tie.Need-returns
-returns c = (tested-here _ c.if1.true, omega (arith, c.if1.true))
+returns : tie.Need-returns-then-position-lt-SECTIONS
+returns c = (tested-here _ c.if-position-lt-SECTIONS.true, omega (arith, c.if-position-lt-SECTIONS.true))
 
-returns-2 : tie.Need-returns-2
-returns-2 c = (tested-anew _ c.if1.false, omega arith)
+returns-2 : tie.Need-returns-else-position-lt-SECTIONS
+returns-2 c = (tested-anew _ c.if-position-lt-SECTIONS.false, omega arith)
 
-pub tested-at-spec : {M : Type 1} → statement M
-tested-at-spec = tie.close (tie.spec returns returns-2)
+pub tested_at_spec : {M : Type 1} → statement M
+tested_at_spec = tie.close (tie.spec returns returns-2)

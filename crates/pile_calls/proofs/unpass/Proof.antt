@@ -13,5 +13,5 @@ returns c =
     let e = word-then-position c.args.state.now c.requires 0 0 in
     (e, ap (λ (l : List ℕ). get_or l 0 0) e)
 
-pub unpass-spec : {M : Type 1} → statement M
-unpass-spec = tie.close (tie.spec (λ c. search rules) (λ c. search rules) (λ c. simp length-set) returns)
+pub unpass_spec : {M : Type 1} → statement M
+unpass_spec = tie.close (tie.spec (λ c. search rules) (λ c. search rules) (λ c. simp length-set) returns)

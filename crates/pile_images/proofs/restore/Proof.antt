@@ -11,44 +11,44 @@ use Rattle.pile_images.proofs.restore.Statement.{statement}
 use Rattle.pile_images.proofs.restore.Tie as tie
 
 -- The image's outline
-module _ (f : tie.After-found) where
+module _ (f : tie.In-Outline-2) where
   abbrev start : tie.Start
   start = f.before.before.before.before.before
 
   reads : Reads f.before.before.before.before.before.args.image.now
-      (OfOutline f.found.given.0.0 f.found.given.0.1.0)
-  reads = subst (λ (x : Found). Reads start.args.image.now x) f.found.given.1 f.before.before.read.ensures
+      (OfOutline f.found-1.given.0.0 f.found-1.given.0.1.0)
+  reads = subst (λ (x : Found). Reads start.args.image.now x) f.found-1.given.1 f.before.before.read-found.ensures
 
-returns : tie.Need-returns
-returns c = restore-high _ _ _ c.if1.true
+returns : tie.Need-returns-then-layer-gt-LAST_LAYER
+returns c = restore-high _ _ _ c.if-layer-gt-LAST_LAYER.true
 
-returns-2 : tie.Need-returns-2
+returns-2 : tie.Need-returns-then-count-eq0
 returns-2 c =
     let f = c.before.before.before.before.before in
-    restore-empty _ _ _ c.before.before.before.before.before.before.before.before.if1.false _ _ (reads f)
-    c.before.before.before.if2.true _ c.set-empty.ensures
+    restore-empty _ _ _ c.before.before.before.before.before.before.before.before.if-layer-gt-LAST_LAYER.false _ _ (reads f)
+    c.before.before.before.if-count-eq0.true _ c.set_empty.ensures
 
-add-end : tie.Need-overflow-add-end
+add-end : tie.Need-overflow_add-end
 add-end c = let f = c.before.before in omega (arith, read_fits _ _ _ (reads f))
 
-part-set-end : tie.Need-slice-bounds-set-end
+part-set-end : tie.Need-slice_bounds-set-end
 part-set-end c = let f = c.before.before.before.before in omega (arith, read_fits _ _ _ (reads f))
 
-returns-3 : tie.Need-returns-3
+returns-3 : tie.Need-returns-in-NotImage
 returns-3 c =
     let s = c.before.before.before.before.before in
-    restore-other _ _ _ c.before.before.before.if1.false
-    (subst (λ (x : Found). Reads s.args.image.now x) c.enum_told.given.1 c.before.before.read.ensures)
+    restore-other _ _ _ c.before.before.before.if-layer-gt-LAST_LAYER.false
+    (subst (λ (x : Found). Reads s.args.image.now x) c.enum_told-1.given.1 c.before.before.read-found.ensures)
 
-returns-4 : tie.Need-returns-4
+returns-4 : tie.Need-returns-else-count-eq0
 returns-4 c =
     let f = c.before.before.before.before.before.before in
-    let n = f.found.given.0.1.0 in
-    restore-set _ _ _ c.before.before.before.before.before.before.before.before.before.if1.false _ _ (reads f)
-    c.before.before.before.before.if2.false (6 + n - 6) (omega arith) _ c.set.ensures.0
+    let n = f.found-1.given.0.1.0 in
+    restore-set _ _ _ c.before.before.before.before.before.before.before.before.before.if-layer-gt-LAST_LAYER.false _ _ (reads f)
+    c.before.before.before.before.if-count-eq0.false (6 + n - 6) (omega arith) _ c.set.ensures.0
 
-pub restore-spec : {M : Type 1} → statement M
-restore-spec =
+pub restore_spec : {M : Type 1} → statement M
+restore_spec =
     tie.close
     (tie.spec returns (λ c κs. search rules) (λ c. search rules) (λ c. search rules) (λ c κs. search rules) returns-2 add-end
     (λ c. search rules) (λ c. search rules) part-set-end (λ c κs. search rules) returns-3 returns-4)

@@ -9,18 +9,18 @@ use Rattle.span_list.specs.SpanList.{spans_from}
 use Rattle.pile_images.proofs.same_rows.Statement.{statement}
 use Rattle.pile_images.proofs.same_rows.Tie as tie
 
-returns : tie.Need-returns
+returns : tie.Need-returns-then-not-same
 returns c = (
   λ e. absurd (true≢false (sym e)),
-  λ h. absurd (true≢false (sym (c.before.same.ensures.1 (ap (λ (x : Spans). x.first) h)) ∙ not-true _ c.if1.true)),
+  λ h. absurd (true≢false (sym (c.before.same.ensures.1 (ap (λ (x : Spans). x.first) h)) ∙ not-true _ c.if-not-same.true)),
 )
 
-returns-2 : tie.Need-returns-2
+returns-2 : tie.Need-returns
 returns-2 c =
     let one = c.before.before.before in (
-      λ e. ap₂ spans_from (one.before.same.ensures.0 (not-false _ one.if1.false)) (c.same2.ensures.0 e),
-      λ h. c.same2.ensures.1 (ap (λ (x : Spans). x.past) h),
+      λ e. ap₂ spans_from (one.before.same.ensures.0 (not-false _ one.if-not-same.false)) (c.same-2.ensures.0 e),
+      λ h. c.same-2.ensures.1 (ap (λ (x : Spans). x.past) h),
     )
 
-pub same-rows-spec : {M : Type 1} → statement M
-same-rows-spec = tie.close (tie.spec (λ c κs. search rules) returns (λ c κs. search rules) returns-2)
+pub same_rows_spec : {M : Type 1} → statement M
+same_rows_spec = tie.close (tie.spec (λ c κs. search rules) returns (λ c κs. search rules) returns-2)

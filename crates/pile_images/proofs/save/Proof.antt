@@ -15,73 +15,73 @@ use Rattle.pile_images.proofs.save.Statement.{statement}
 use Rattle.pile_images.proofs.save.Tie as tie
 
 -- What was found in the layer
-module _ (f : tie.After-find) where
+module _ (f : tie.After-find-held) where
   abbrev start : tie.Start
   start = f.before.before.before.before.before.before.before
 
   abbrev found : Spans
-  found = spans_from f.before.before.before.part.result.now f.before.before.part2.result.now
+  found = spans_from f.before.before.before.part-first.result.now f.before.before.part-past.result.now
 
   abbrev letters : List ℕ
-  letters = f.find.last.1.1.0
+  letters = f.find-held.last.1.1.0
 
-  is-layer : spans_from f.before.before.before.part.result.now f.before.before.part2.result.now
+  is-layer : spans_from f.before.before.before.part-first.result.now f.before.before.part-past.result.now
       ≡ spans_at f.before.before.before.before.before.before.before.args.rows.now
       f.before.before.before.before.before.before.before.args.layer
   unfolding spans_at
-  is-layer = ap₂ spans_from f.before.before.before.part.ensures.0 f.before.before.part2.ensures.0
+  is-layer = ap₂ spans_from f.before.before.before.part-first.ensures.0 f.before.before.part-past.ensures.0
 
   low : f.before.before.before.before.before.before.before.args.layer ≤ last_layer
-  low = f.before.before.before.before.before.if1.left
+  low = f.before.before.before.before.before.if-layer-gt-LAST_LAYER.left
 
-  holds : (h : Held) → f.find.result ≡ h
-      → Holds (spans_from f.before.before.before.part.result.now f.before.before.part2.result.now)
-      f.find.last.1.1.0 h
-  holds h e = subst (Holds found letters) e f.find.ensures
+  holds : (h : Held) → f.find-held.result ≡ h
+      → Holds (spans_from f.before.before.before.part-first.result.now f.before.before.part-past.result.now)
+      f.find-held.last.1.1.0 h
+  holds h e = subst (Holds found letters) e f.find-held.ensures
 
-fits : (k : tie.After-held) → Fits (letters k.before.before.before) k.held.given.0.0 k.held.given.0.1.0
-fits k = outline-fits _ _ _ _ (holds k.before.before.before _ k.held.given.1)
+fits : (k : tie.In-Outline-2) → Fits (letters k.before.before.before) k.held-1.given.0.0 k.held-1.given.0.1.0
+fits k = outline-fits _ _ _ _ (holds k.before.before.before _ k.held-1.given.1)
 
-returns : tie.Need-returns
-returns c = save-high _ _ _ c.if1.true
+returns : tie.Need-returns-then-layer-gt-LAST_LAYER
+returns c = save-high _ _ _ c.if-layer-gt-LAST_LAYER.true
 
-array-share-prefix-letters-2 : tie.Need-array-share-prefix-letters-2
-array-share-prefix-letters-2 c = (fits c.before).letters
+array-share-prefix-letters-2 : tie.Need-slice_bounds-letters-end-in-Outline
+array-share-prefix-letters-2 c = (fits c.before).letters-1
 
-slice-aggregate-write-image-2 : tie.Need-slice-aggregate-write-image-2
+slice-aggregate-write-image-2 : tie.Need-slice_bounds-write_image-end-in-Outline
 slice-aggregate-write-image-2 c = let k = c.before.before in sym
-    (length-take-le k.held.given.0.1.0 (letters k.before.before.before) (fits k).letters)
+    (length-take-le k.held-1.given.0.1.0 (letters k.before.before.before) (fits k).letters-1)
 
-write-image-requires-2 : tie.Need-write-image-requires-2
+write-image-requires-2 : tie.Need-write_image-requires-in-Outline
 write-image-requires-2 c κs =
     let k = c.before.before.before in
     let f = fits k in (
       f.col,
       f.row,
-      omega (arith, length-take-le k.held.given.0.1.0 (letters k.before.before.before) f.letters, f.letters, f.long),
+      omega (arith, length-take-le k.held-1.given.0.1.0 (letters k.before.before.before) f.letters-1, f.letters-1, f.long),
     )
 
-returns-2 : tie.Need-returns-2
+returns-2 : tie.Need-returns-in-Empty
 returns-2 c =
     let f = c.before.before.before.before.before.before.before.before in
     save-layer _ _ _ (low f) _ (is-layer f) _ _
-    (saved-empty _ (letters f) _ _ _ (holds f _ c.before.before.before.before.before.enum_told.given.1)
-    c.before.before.write-image.ensures)
+    (saved-empty _ (letters f) _ _ _ (holds f _ c.before.before.before.before.before.enum_told-1.given.1)
+    c.before.before.write_image.ensures)
 
-returns-3 : tie.Need-returns-3
+returns-3 : tie.Need-returns-in-Outline
 returns-3 c =
     let k = c.before.before.before.before.before.before in
     let f = k.before.before.before in
     save-layer _ _ _ (low f) _ (is-layer f) _ _
-    (saved-outline _ (letters f) _ _ _ _ _ (holds f _ k.held.given.1) c.before.before.write-image2.ensures)
+    (saved-outline _ (letters f) _ _ _ _ _ (holds f _ k.held-1.given.1) c.before.before.write_image-in-Outline.ensures)
 
-returns-4 : tie.Need-returns-4
+returns-4 : tie.Need-returns-in-Damaged
 returns-4 c =
     let f = c.before.before.before in
-    save-layer _ _ _ (low f) _ (is-layer f) _ _ (saved-damaged _ (letters f) _ (holds f _ c.enum-told2.given.1))
+    save-layer _ _ _ (low f) _ (is-layer f) _ _ (saved-damaged _ (letters f) _ (holds f _ c.enum_told-in-Damaged-1.given.1))
 
-pub save-spec : {M : Type 1} → statement M
-save-spec =
+pub save_spec : {M : Type 1} → statement M
+save_spec =
     tie.close
     (tie.spec returns (λ c. search rules) (λ c κs. search rules) (λ c. search rules) (λ c κs. search rules) (λ c. search rules)
     (λ c κs. search rules) (λ c. search rules) (λ c. search rules) (λ c. search rules) (λ c κs. search rules) (λ c. search rules)

@@ -8,7 +8,7 @@ returns : tie.Need-returns
 returns c =
     let named = c.before.before in
     let made = named.before in
-    steps-by _ _ _ _ c.put.ensures _ _ made.check-steps.ensures named.of-progress.ensures
+    steps-by _ _ _ _ c.put.ensures _ _ made.check_steps.ensures named.of_progress.ensures
 
-pub check-steps-spec : {M : Type 1} → statement M
-check-steps-spec = tie.close (tie.spec (λ c κs. search rules) (λ c κs. search rules) (λ c κs. search rules) returns)
+pub check_steps_spec : {M : Type 1} → statement M
+check_steps_spec = tie.close (tie.spec (λ c κs. search rules) (λ c κs. search rules) (λ c κs. search rules) returns)

@@ -8,7 +8,7 @@ returns : tie.Need-returns
 returns c =
     let named = c.before.before in
     let made = named.before in
-    query-by _ _ _ _ _ c.put.ensures _ made.query.ensures named.of-reply.ensures
+    query-by _ _ _ _ _ c.put.ensures _ made.query.ensures named.of_reply.ensures
 
-pub query-spec : {M : Type 1} → statement M
-query-spec = tie.close (tie.spec (λ c κs. search rules) (λ c κs. search rules) (λ c κs. search rules) returns)
+pub query_spec : {M : Type 1} → statement M
+query_spec = tie.close (tie.spec (λ c κs. search rules) (λ c κs. search rules) (λ c κs. search rules) returns)

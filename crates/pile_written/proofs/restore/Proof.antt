@@ -8,7 +8,7 @@ returns : tie.Need-returns
 returns c =
     let named = c.before.before in
     let made = named.before in
-    done-by _ _ _ _ c.put.ensures _ _ made.restore.ensures named.of-reply.ensures
+    done-by _ _ _ _ c.put.ensures _ _ made.restore.ensures named.of_reply.ensures
 
-pub restore-spec : {M : Type 1} → statement M
-restore-spec = tie.close (tie.spec (λ c κs. search rules) (λ c κs. search rules) (λ c κs. search rules) returns)
+pub restore_spec : {M : Type 1} → statement M
+restore_spec = tie.close (tie.spec (λ c κs. search rules) (λ c κs. search rules) (λ c κs. search rules) returns)

@@ -9,7 +9,7 @@ returns : tie.Need-returns
 returns c =
     let named = c.before.before in
     let made = named.before.before.before in
-    record { answer = made.save.result; saves = made.save.ensures; written = c.put.ensures ∙ ap numbers_of named.of-reply.ensures }
+    record { answer = made.save.result; saves = made.save.ensures; written = c.put.ensures ∙ ap numbers_of named.of_reply.ensures }
 
-pub save-spec : {M : Type 1} → statement M
-save-spec = tie.close (tie.spec (λ c κs. search rules) (λ c κs. search rules) (λ c κs. search rules) (λ c. search rules) returns)
+pub save_spec : {M : Type 1} → statement M
+save_spec = tie.close (tie.spec (λ c κs. search rules) (λ c κs. search rules) (λ c κs. search rules) (λ c. search rules) returns)

@@ -8,8 +8,8 @@ returns : tie.Need-returns
 returns c =
     let named = c.before.before in
     let made = named.before in (
-      done-by _ _ _ _ c.put.ensures _ _ made.set.ensures.0 named.of-reply.ensures,
-      cell-written _ _ c.put.ensures _ named.of-reply.ensures _ made.set.ensures.1,
+      done-by _ _ _ _ c.put.ensures _ _ made.set.ensures.0 named.of_reply.ensures,
+      cell-written _ _ c.put.ensures _ named.of_reply.ensures _ made.set.ensures.1,
     )
 
 pub set_spec : {M : Type 1} → statement M

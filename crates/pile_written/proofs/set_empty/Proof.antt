@@ -8,7 +8,7 @@ returns : tie.Need-returns
 returns c =
     let named = c.before.before in
     let made = named.before in
-    done-by _ _ _ _ c.put.ensures _ _ made.set-empty.ensures named.of-reply.ensures
+    done-by _ _ _ _ c.put.ensures _ _ made.set_empty.ensures named.of_reply.ensures
 
-pub set-empty-spec : {M : Type 1} → statement M
-set-empty-spec = tie.close (tie.spec (λ c κs. search rules) (λ c κs. search rules) (λ c κs. search rules) returns)
+pub set_empty_spec : {M : Type 1} → statement M
+set_empty_spec = tie.close (tie.spec (λ c κs. search rules) (λ c κs. search rules) (λ c κs. search rules) returns)

@@ -23,98 +23,98 @@ use Rattle.polygon.proofs.LooseCases.{turning-long, turning-short}
 use Rattle.polygon.proofs.bad_directions.Statement.{statement}
 use Rattle.polygon.proofs.bad_directions.Tie as tie
 
-abbrev invariant-loop : tie.invariant-loop
+abbrev invariant-loop : tie.invariant-loop-i
 invariant-loop edges at₀ i₀ at i = Turned edges at i
 
-abbrev decreases-loop : tie.decreases-loop
+abbrev decreases-loop : tie.decreases-loop-i
 decreases-loop edges at₀ i₀ at i = length edges - i
 
 -- The edge of an iteration
 abbrev Iteration : Type 0
-Iteration = tie.In-loop invariant-loop decreases-loop
+Iteration = tie.In-loop-i invariant-loop decreases-loop
 
 abbrev list : Iteration → List ℤ
 list t = t.before.before.before.before.args.edges.now
 
 abbrev edge : Iteration → Edge
-edge t = edge_at (list t) t.before.loop.i
+edge t = edge_at (list t) t.before.loop-i.i
 
-fits-x : (c : tie.After-further-arg invariant-loop decreases-loop) → SFits w16 (edge c.before.before.before).0
-fits-x c = record { sfits = c.further-arg.given }
+fits-x : (c : tie.After-further-arg-1 invariant-loop decreases-loop) → SFits w16 (edge c.before.before.before).0
+fits-x c = record { sfits = c.further-arg-1.given }
 
-fits-y : (c : tie.After-further-arg2 invariant-loop decreases-loop) → SFits w16 (edge c.before.before.before.before).1
-fits-y c = record { sfits = c.further-arg2.given }
+fits-y : (c : tie.After-further-arg-in-loop-i-1 invariant-loop decreases-loop) → SFits w16 (edge c.before.before.before.before).1
+fits-y c = record { sfits = c.further-arg-in-loop-i-1.given }
 
 further-is :
-    (c : tie.After-further invariant-loop decreases-loop) →
+    (c : tie.After-further-at invariant-loop decreases-loop) →
     let t = c.before.before.before.before.before in
-    c.further.result ≡ stepped t.before.loop.at (edge t).0 (edge t).1
-further-is c = simp (to_z-of_z w16 _ (fits-x c.before.before), to_z-of_z w16 _ (fits-y c.before)) at c.further.ensures
+    c.further-at.result ≡ stepped t.before.loop-i.at (edge t).0 (edge t).1
+further-is c = simp (to_z-of_z w16 _ (fits-x c.before.before), to_z-of_z w16 _ (fits-y c.before)) at c.further-at.ensures
 
 -- The machine keeps the value of a coordinate of the corner cell
-col-read : (c : tie.After-long invariant-loop decreases-loop) → to_z w64 (of_z w64 c.long.result) ≡ c.before.before.before.loop.at.col
+col-read : (c : tie.After-long invariant-loop decreases-loop) → to_z w64 (of_z w64 c.long.result) ≡ c.before.before.before.loop-i.at.col
 col-read c =
     let told = c.before in
     read_back _ c.long.type-inv ∙ c.long.ensures
-    ∙ to_z-of_z w32 told.before.before.loop.at.col (record { sfits = told.struct_told.given.0.1 })
+    ∙ to_z-of_z w32 told.before.before.loop-i.at.col (record { sfits = told.struct_told-1.given.0.1 })
 
-row_read : (c : tie.After-long2 invariant-loop decreases-loop)
-    → to_z w64 (of_z w64 c.long2.result) ≡ c.before.before.before.before.before.before.before.loop.at.row
+row_read : (c : tie.After-long-else-not-is_zero invariant-loop decreases-loop)
+    → to_z w64 (of_z w64 c.long-else-not-is_zero.result) ≡ c.before.before.before.before.before.before.before.loop-i.at.row
 row_read c =
     let told = c.before in
     let l = told.before.before.before.before.before.before in
-    read_back _ c.long2.type-inv ∙ c.long2.ensures ∙ to_z-of_z w32 l.loop.at.row (record { sfits = told.struct-told2.given.1.0.1 })
+    read_back _ c.long-else-not-is_zero.type-inv ∙ c.long-else-not-is_zero.ensures ∙ to_z-of_z w32 l.loop-i.at.row (record { sfits = told.struct_told-else-not-is_zero-1.given.1.0.1 })
 
 -- For a list that is not too long the definition is refusal 16, which the corner cell decides at the end
 decided :
-    (c : tie.After-is-zero invariant-loop decreases-loop) →
+    (c : tie.After-is_zero invariant-loop decreases-loop) →
     let l = c.before.before.before.before in
-    bad_directions_list l.before.before.before.args.edges.now ≡ not (is_nil l.loop.at.col && is_nil l.loop.at.row)
-decided c = let l = c.before.before.before.before in turning-short _ (omega arith) ∙ turned-end l.loop.invariant (omega arith)
+    bad_directions_list l.before.before.before.args.edges.now ≡ not (is_nil l.loop-i.at.col && is_nil l.loop-i.at.row)
+decided c = let l = c.before.before.before.before in turning-short _ (omega arith) ∙ turned-end l.loop-i.invariant (omega arith)
 
-zero-col : (c : tie.After-is-zero invariant-loop decreases-loop) → c.is_zero.result ≡ is_nil c.before.before.before.before.loop.at.col
+zero-col : (c : tie.After-is_zero invariant-loop decreases-loop) → c.is_zero.result ≡ is_nil c.before.before.before.before.loop-i.at.col
 zero-col c = simp (col-read c.before) at c.is_zero.ensures
 
-zero_row : (c : tie.After-is-zero2 invariant-loop decreases-loop)
-    → c.is-zero2.result ≡ is_nil c.before.before.before.before.before.before.before.before.loop.at.row
-zero_row c = simp (row_read c.before) at c.is-zero2.ensures
+zero_row : (c : tie.After-is_zero-else-not-is_zero invariant-loop decreases-loop)
+    → c.is_zero-else-not-is_zero.result ≡ is_nil c.before.before.before.before.before.before.before.before.loop-i.at.row
+zero_row c = simp (row_read c.before) at c.is_zero-else-not-is_zero.ensures
 
-returns : tie.Need-returns invariant-loop decreases-loop
+returns : tie.Need-returns-then-edges-gt-LONGEST_LIST invariant-loop decreases-loop
 returns c = turning-long _ (omega arith)
 
-loop-holds : tie.Need-loop-init invariant-loop decreases-loop
-loop-holds c = rw c.start.ensures (turned-start _ (omega arith))
+loop-holds : tie.Need-loop-i-init invariant-loop decreases-loop
+loop-holds c = rw c.start-at.ensures (turned-start _ (omega arith))
 
-returns-2 : tie.Need-returns-2 invariant-loop decreases-loop
+returns-2 : tie.Need-returns-then-not-turns_on invariant-loop decreases-loop
 returns-2 c =
     let t = c.before.before in
     sym (turning-short (list t) (omega arith)
-    ∙ turned-off t.before.loop.invariant (omega arith) (sym c.before.turns-on.ensures ∙ not-true _ c.if2.true))
+    ∙ turned-off t.before.loop-i.invariant (omega arith) (sym c.before.turns_on.ensures ∙ not-true _ c.if-not-turns_on.true))
 
-further-requires : tie.Need-further-requires invariant-loop decreases-loop
+further-requires : tie.Need-further-at-requires invariant-loop decreases-loop
 further-requires c κs =
     let x = fits-x c.before in
     let y = fits-y c in
-    simp (to_z-of_z w16 _ x, to_z-of_z w16 _ y) (after-fits c.before.before.before.before.before.loop.invariant.near x y (omega arith))
+    simp (to_z-of_z w16 _ x, to_z-of_z w16 _ y) (after-fits c.before.before.before.before.before.loop-i.invariant.near x y (omega arith))
 
-loop-again : tie.Need-loop-preserved invariant-loop decreases-loop
+loop-again : tie.Need-loop-i-preserved invariant-loop decreases-loop
 loop-again c =
     let on = c.before.before.before in
     let t = on.before.before in
-    let turned = sym on.before.turns-on.ensures ∙ not-false _ on.if2.false in
-    rw (further-is c) (turned-edge t.before.loop.invariant (omega arith) (fits-x c.before.before) (fits-y c.before) turned)
+    let turned = sym on.before.turns_on.ensures ∙ not-false _ on.if-not-turns_on.false in
+    rw (further-is c) (turned-edge t.before.loop-i.invariant (omega arith) (fits-x c.before.before) (fits-y c.before) turned)
 
-returns-3 : tie.Need-returns-3 invariant-loop decreases-loop
+returns-3 : tie.Need-returns-then-not-is_zero invariant-loop decreases-loop
 returns-3 c =
-    c.if3.true ∙ sym (decided c.before ∙ rw (sym (zero-col c.before) ∙ not-true _ c.if3.true))
+    c.if-not-is_zero.true ∙ sym (decided c.before ∙ rw (sym (zero-col c.before) ∙ not-true _ c.if-not-is_zero.true))
 
-returns-4 : tie.Need-returns-4 invariant-loop decreases-loop
+returns-4 : tie.Need-returns-else-not-is_zero invariant-loop decreases-loop
 returns-4 c =
     let one = c.before.before.before in
-    sym (decided one.before ∙ rw (sym (zero-col one.before) ∙ not-false _ one.if3.false) (ap not (sym (zero_row c))))
+    sym (decided one.before ∙ rw (sym (zero-col one.before) ∙ not-false _ one.if-not-is_zero.false) (ap not (sym (zero_row c))))
 
-pub bad-directions-spec : {M : Type 1} → statement M
-bad-directions-spec =
+pub bad_directions_spec : {M : Type 1} → statement M
+bad_directions_spec =
     tie.close
     (tie.spec invariant-loop decreases-loop returns (λ c κs. search rules) loop-holds (λ c. omega arith) (λ c κs. omega arith) returns-2
     (λ c. omega arith) (λ c. omega arith) (λ c. omega arith) (λ c. omega arith) (λ c. omega arith) further-requires (λ c. omega arith)

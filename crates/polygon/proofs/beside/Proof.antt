@@ -18,25 +18,25 @@ across s = s.args.dy *ℤ (pos s.args.cell.col -ℤ s.args.at.col)
 abbrev up : tie.Start → ℤ
 up s = s.args.dx *ℤ (pos s.args.cell.row -ℤ s.args.at.row)
 
-across-read : (c : tie.After-moment) → to_z w64 (of_z w64 c.moment.result) ≡ across c.before.before
+across-read : (c : tie.After-moment-across) → to_z w64 (of_z w64 c.moment-across.result) ≡ across c.before.before
 across-read c =
     let s = c.before.before in
-    read_back c.moment.result c.moment.type-inv
+    read_back c.moment-across.result c.moment-across.type-inv
     ∙ simp (
       to_z-of_z w16 s.args.dy s.ranges.dy,
-      to_z-of_z w32 s.args.at.col (record { sfits = c.before.struct_told.given.0.1 }),
+      to_z-of_z w32 s.args.at.col (record { sfits = c.before.struct_told-1.given.0.1 }),
     )
-    at c.moment.ensures
+    at c.moment-across.ensures
 
-up-read : (c : tie.After-moment2) → to_z w64 (of_z w64 c.moment2.result) ≡ up c.before.before.before.before
+up-read : (c : tie.After-moment-up) → to_z w64 (of_z w64 c.moment-up.result) ≡ up c.before.before.before.before
 up-read c =
     let s = c.before.before.before.before in
-    read_back c.moment2.result c.moment2.type-inv
+    read_back c.moment-up.result c.moment-up.type-inv
     ∙ simp (
       to_z-of_z w16 s.args.dx s.ranges.dx,
-      to_z-of_z w32 s.args.at.row (record { sfits = c.before.struct-told2.given.1.0.1 }),
+      to_z-of_z w32 s.args.at.row (record { sfits = c.before.struct_told-2-1.given.1.0.1 }),
     )
-    at c.moment2.ensures
+    at c.moment-up.ensures
 
 returns : tie.Need-returns
 unfolding side_value
@@ -45,5 +45,5 @@ returns c =
     let s = m.before.before.before.before in
     simp (across-read m.before.before, up-read m) at c.at_most.ensures ∙ at-most-difference (across s) (up s)
 
-pub beside-spec : {M : Type 1} → statement M
-beside-spec = tie.close (tie.spec (λ c κs. search rules) (λ c κs. search rules) (λ c κs. search rules) returns)
+pub beside_spec : {M : Type 1} → statement M
+beside_spec = tie.close (tie.spec (λ c κs. search rules) (λ c κs. search rules) (λ c κs. search rules) returns)

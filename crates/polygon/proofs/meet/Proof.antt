@@ -11,20 +11,20 @@ use Rattle.polygon.proofs.meet.Statement.{statement}
 use Rattle.polygon.proofs.meet.Tie as tie
 
 -- The machine keeps the value of the number
-at_read : (c : tie.After-long) → to_z w64 (of_z w64 c.long.result) ≡ c.before.args.n
-at_read c = read_back c.long.result c.long.type-inv ∙ c.long.ensures ∙ to_z-of_z w32 c.before.args.n c.before.ranges.n
+at_read : (c : tie.After-long-at) → to_z w64 (of_z w64 c.long-at.result) ≡ c.before.args.n
+at_read c = read_back c.long-at.result c.long-at.type-inv ∙ c.long-at.ensures ∙ to_z-of_z w32 c.before.args.n c.before.ranges.n
 
 low-is : (c : tie.After-lower) → let s = c.before.before.before.args in c.lower.result ≡ minℤ s.s.low s.n
 low-is c =
     simp (
-      read_back c.before.before.before.args.s.low c.before.struct_told.given.0.1,
+      read_back c.before.before.before.args.s.low c.before.struct_told-1.given.0.1,
       at_read c.before.before,
     ) at c.lower.ensures
 
 high_is : (c : tie.After-higher) → let s = c.before.before.before.before.before.args in c.higher.result ≡ maxℤ s.s.high s.n
 high_is c =
     let long = c.before.before.before.before in
-    simp (read_back long.before.args.s.high c.before.struct-told2.given.1.0.1, at_read long) at c.higher.ensures
+    simp (read_back long.before.args.s.high c.before.struct_told-2-1.given.1.0.1, at_read long) at c.higher.ensures
 
 returns : tie.Need-returns
 unfolding met
@@ -32,5 +32,5 @@ returns c =
     simp (read_back c.before.before.lower.result c.before.before.lower.type-inv, read_back c.higher.result c.higher.type-inv)
     (simp (low-is c.before.before, high_is c))
 
-pub meet-spec : {M : Type 1} → statement M
-meet-spec = tie.close (tie.spec (λ c κs. search rules) (λ c κs. search rules) (λ c κs. search rules) returns)
+pub meet_spec : {M : Type 1} → statement M
+meet_spec = tie.close (tie.spec (λ c κs. search rules) (λ c κs. search rules) (λ c κs. search rules) returns)

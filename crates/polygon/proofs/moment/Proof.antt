@@ -51,7 +51,7 @@ returns c =
     let d = c.before in
     read_back c.product.result c.product.type-inv ∙ simp (step-read d.before.before.before, distance_is d) at c.product.ensures
 
-pub moment-spec : {M : Type 1} → statement M
-moment-spec =
+pub moment_spec : {M : Type 1} → statement M
+moment_spec =
     tie.close
     (tie.spec (λ c κs. search rules) (λ c κs. search rules) (λ c κs. search rules) difference-requires product-requires returns)

@@ -30,17 +30,17 @@ next_x s = get_or (list s) (s.args.i + 2) (pos 0)
 abbrev next_y : tie.Start → ℤ
 next_y s = get_or (list s) (s.args.i + 2 + 1) (pos 0)
 
-fits-x : (c : tie.After-dx) → SFits w16 (step_x c.before)
-fits-x c = record { sfits = c.dx.given }
+fits-x : (c : tie.After-dx-1) → SFits w16 (step_x c.before)
+fits-x c = record { sfits = c.dx-1.given }
 
-fits-y : (c : tie.After-dy) → SFits w16 (step_y c.before.before)
-fits-y c = record { sfits = c.dy.given }
+fits-y : (c : tie.After-dy-1) → SFits w16 (step_y c.before.before)
+fits-y c = record { sfits = c.dy-1.given }
 
-nil_is : (c : tie.After-zero-step) → let s = c.before.before.before in c.zero-step.result ≡ (is_nil (step_x s) && is_nil (step_y s))
-nil_is c = simp (to_z-of_z w16 _ (fits-x c.before.before), to_z-of_z w16 _ (fits-y c.before)) at c.zero-step.ensures
+nil_is : (c : tie.After-zero_step) → let s = c.before.before.before in c.zero_step.result ≡ (is_nil (step_x s) && is_nil (step_y s))
+nil_is c = simp (to_z-of_z w16 _ (fits-x c.before.before), to_z-of_z w16 _ (fits-y c.before)) at c.zero_step.ensures
 
-not-nil : (c : tie.Else1) → let s = c.before.before.before.before in (is_nil (step_x s) && is_nil (step_y s)) ≡ false
-not-nil c = sym (nil_is c.before) ∙ c.if1.false
+not-nil : (c : tie.Else-zero_step) → let s = c.before.before.before.before in (is_nil (step_x s) && is_nil (step_y s)) ≡ false
+not-nil c = sym (nil_is c.before) ∙ c.if-zero_step.false
 
 precedes-is :
     (c : tie.After-precedes) →
@@ -49,8 +49,8 @@ precedes-is :
 precedes-is c =
     let e = c.before in
     let one = e.before.before.before.before.before in
-    let fits-ex : SFits w16 (next_x one.before.before) = record { sfits = e.before.ex.given } in
-    let fits-ey : SFits w16 (next_y one.before.before) = record { sfits = e.ey.given } in
+    let fits-ex : SFits w16 (next_x one.before.before) = record { sfits = e.before.ex-1.given } in
+    let fits-ey : SFits w16 (next_y one.before.before) = record { sfits = e.ey-1.given } in
     simp (
       to_z-of_z w16 _ (fits-x one.before),
       to_z-of_z w16 _ (fits-y one),
@@ -58,24 +58,24 @@ precedes-is c =
       to_z-of_z w16 _ fits-ey,
     ) at c.precedes.ensures
 
-returns : tie.Need-returns
+returns : tie.Need-returns-then-zero_step
 returns c =
     let s = c.before.before.before.before in
-    sym (turns-on-nil (list s) s.args.i s.requires (sym (nil_is c.before) ∙ c.if1.true))
+    sym (turns-on-nil (list s) s.args.i s.requires (sym (nil_is c.before) ∙ c.if-zero_step.true))
 
-returns-2 : tie.Need-returns-2
+returns-2 : tie.Need-returns-then-edges-next
 returns-2 c =
     let s = c.before.before.before.before.before in
-    sym (turns-on-last (list s) s.args.i s.requires (not-nil c.before) c.if2.true)
+    sym (turns-on-last (list s) s.args.i s.requires (not-nil c.before) c.if-edges-next.true)
 
-returns-3 : tie.Need-returns-3
+returns-3 : tie.Need-returns
 returns-3 c =
     let two = c.before.before.before in
     let s = two.before.before.before.before.before in
-    precedes-is c ∙ sym (turns-on-next (list s) s.args.i s.requires (not-nil two.before) two.if2.false)
+    precedes-is c ∙ sym (turns-on-next (list s) s.args.i s.requires (not-nil two.before) two.if-edges-next.false)
 
-pub turns-on-spec : {M : Type 1} → statement M
-turns-on-spec =
+pub turns_on_spec : {M : Type 1} → statement M
+turns_on_spec =
     tie.close
     (tie.spec (λ c. search rules) (λ c. search rules) (λ c. search rules) (λ c. search rules) (λ c. search rules) (λ c κs. search rules)
     returns (λ c. search rules) (λ c. search rules) returns-2 (λ c. search rules) (λ c. search rules) (λ c. search rules)

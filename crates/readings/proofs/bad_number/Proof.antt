@@ -11,5 +11,5 @@ returns : tie.Need-returns
 unfolding of_bits of_int
 returns c = bad-is c.args.x (subst T (sym c.well-formed.0.1) tt)
 
-pub bad-number-spec : {M : Type 1} → statement M
-bad-number-spec = tie.close (tie.spec (λ c. search rules) returns)
+pub bad_number_spec : {M : Type 1} → statement M
+bad_number_spec = tie.close (tie.spec (λ c. search rules) returns)

@@ -6,7 +6,7 @@ use Rattle.readings.proofs.from_bits.Tie as tie
 
 returns : tie.Need-returns
 unfolding reading_of
-returns c = simp (c.before.number.ensures, c.number2.ensures)
+returns c = simp (c.before.number.ensures, c.number-2.ensures)
 
-pub from-bits-spec : {M : Type 1} → statement M
-from-bits-spec = tie.close (tie.spec (λ c κs. search rules) (λ c κs. search rules) returns)
+pub from_bits_spec : {M : Type 1} → statement M
+from_bits_spec = tie.close (tie.spec (λ c κs. search rules) (λ c κs. search rules) returns)

@@ -19,14 +19,14 @@ quotient : div binary32 (of_bits binary32 0) (of_bits binary32 0) ≡ nan
 unfolding div of_bits
 quotient = refl
 
-returns : tie.Need-returns
+returns : tie.Need-returns-then-bits-gt2139095040
 returns c =
     let n = c.before.args.bits in
-    quotient ∙ only_nan (of_bits binary32 n) (sym (nan_bits_is binary32 n) ∙ nan_bits_above binary32 n ∙ lt-ltb _ _ c.if1.true)
+    quotient ∙ only_nan (of_bits binary32 n) (sym (nan_bits_is binary32 n) ∙ nan_bits_above binary32 n ∙ lt-ltb _ _ c.if-bits-gt2139095040.true)
 
-float-from-bits-result : tie.Need-float-from-bits-result
+float-from-bits-result : tie.Need-float_from_bits-result
 float-from-bits-result c =
-    subst (λ (b : Bool). T (not b)) (sym (nan_bits_above binary32 c.before.args.bits ∙ le-ltb _ _ c.if1.false)) tt
+    subst (λ (b : Bool). T (not b)) (sym (nan_bits_above binary32 c.before.args.bits ∙ le-ltb _ _ c.if-bits-gt2139095040.false)) tt
 
-pub number-spec : {M : Type 1} → statement M
-number-spec = tie.close (tie.spec returns float-from-bits-result (λ c. search rules))
+pub number_spec : {M : Type 1} → statement M
+number_spec = tie.close (tie.spec returns float-from-bits-result (λ c. search rules))

@@ -11,61 +11,61 @@ use Rattle.replay.proofs.ReplayLaws.{underway-count, underway-list}
 use Rattle.replay.proofs.replay.Statement.{statement}
 use Rattle.replay.proofs.replay.Tie as tie
 
-abbrev invariant-loop : tie.invariant-loop
+abbrev invariant-loop : tie.invariant-loop-done
 invariant-loop script replies₀ end letters₀ rows₀ numbers₀ heads₀ reply₀ done₀ replies letters rows numbers heads reply done =
     Underway script replies₀ end (arrays letters rows numbers heads) done replies
 
-abbrev decreases-loop : tie.decreases-loop
+abbrev decreases-loop : tie.decreases-loop-done
 decreases-loop script replies₀ end letters₀ rows₀ numbers₀ heads₀ reply₀ done₀ replies letters rows numbers heads reply done = end - done
 
 -- The turn of the loop in which the call was made
-abbrev turning : tie.After-respond invariant-loop decreases-loop → tie.In-loop invariant-loop decreases-loop
+abbrev turning : tie.After-respond-made invariant-loop decreases-loop → tie.In-loop-done invariant-loop decreases-loop
 turning c = c.before.before.before.before.before.before.before
 
 -- A call's bytes are as many as a call has
 sent : (done : ℕ) → call_width * done + call_width - call_width * done ≡ call_width
 sent done = omega arith
 
-loop-holds : tie.Need-loop-init invariant-loop decreases-loop
+loop-holds : tie.Need-loop-done-init invariant-loop decreases-loop
 unfolding fresh_holder
-loop-holds c = underway-first _ _ _ _ c.most.ensures refl
+loop-holds c = underway-first _ _ _ _ c.most-end.ensures refl
 
-same_length : tie.Need-same-length invariant-loop decreases-loop
-same_length c = (turning c.before).before.loop.inv.same_length
+same_length : tie.Need-shape_of-replies-then-not-made invariant-loop decreases-loop
+same_length c = (turning c.before).before.loop-done.inv.same_length
 
-returns : tie.Need-returns invariant-loop decreases-loop
+returns : tie.Need-returns-then-not-made invariant-loop decreases-loop
 returns c =
     let i = turning c.before in
-    let loop = i.before.loop in
+    let loop = i.before.loop-done in
     let none =
-    stops-at-none _ _ _ _ _ _ loop.inv i.loop-test.taken _ _ _ _ _ (sent loop.done) c.before.respond.ensures.0
-    c.if1.true in
+    stops-at-none _ _ _ _ _ _ loop.inv i.loop-done-test.taken _ _ _ _ _ (sent loop.done) c.before.respond-made.ensures.0
+    c.if-not-made.true in
     (underway-count _ _ _ _ _ _ loop.inv none, underway-list _ _ _ _ _ _ loop.inv none)
 
 put-requires : tie.Need-put-requires invariant-loop decreases-loop
 put-requires c κs =
     let i = turning c.before.before.before in
-    room _ _ _ _ _ _ i.before.loop.inv i.loop-test.taken
+    room _ _ _ _ _ _ i.before.loop-done.inv i.loop-done-test.taken
 
-loop-again : tie.Need-loop-preserved invariant-loop decreases-loop
+loop-again : tie.Need-loop-done-preserved invariant-loop decreases-loop
 loop-again c =
     let put = c.before.before in
     let made = put.before.before.before in
     let i = turning made.before in
-    let loop = i.before.loop in
-    underway-responded _ _ _ _ _ _ loop.inv i.loop-test.taken _ _ _ _ _ (sent loop.done) made.before.respond.ensures.0
-    made.if1.false _ put.put.ensures
+    let loop = i.before.loop-done in
+    underway-responded _ _ _ _ _ _ loop.inv i.loop-done-test.taken _ _ _ _ _ (sent loop.done) made.before.respond-made.ensures.0
+    made.if-not-made.false _ put.put.ensures
 
-same-length-2 : tie.Need-same-length-2 invariant-loop decreases-loop
-same-length-2 c = c.before.loop.invariant.same_length
+same-length-2 : tie.Need-shape_of-replies invariant-loop decreases-loop
+same-length-2 c = c.before.loop-done.invariant.same_length
 
-returns-2 : tie.Need-returns-2 invariant-loop decreases-loop
+returns-2 : tie.Need-returns invariant-loop decreases-loop
 returns-2 c =
-    let none = stops-at-end _ _ _ _ _ _ c.before.loop.invariant c.loop-test.false in
-    (underway-count _ _ _ _ _ _ c.before.loop.invariant none, underway-list _ _ _ _ _ _ c.before.loop.invariant none)
+    let none = stops-at-end _ _ _ _ _ _ c.before.loop-done.invariant c.loop-done-test.false in
+    (underway-count _ _ _ _ _ _ c.before.loop-done.invariant none, underway-list _ _ _ _ _ _ c.before.loop-done.invariant none)
 
-pub replay-spec : {M : Type 1} → statement M
-replay-spec =
+pub replay_spec : {M : Type 1} → statement M
+replay_spec =
     tie.close
     (tie.spec invariant-loop decreases-loop (λ c κs. search rules) loop-holds (λ c. omega arith) (λ c. omega arith) (λ c. omega arith)
     (λ c. omega arith) (λ c. omega arith) (λ c κs. search rules) same_length returns (λ c. omega arith) put-requires (λ c. omega arith)

@@ -11,14 +11,14 @@ returns : tie.Need-returns
 returns c =
     let named = c.before.before in
     let traced = named.before.before.before in
-    let said = named.of-traced.ensures ∙ ap traced_fields traced.border.ensures.0 in (
+    let said = named.of_traced.ensures ∙ ap traced_fields traced.border-traced.ensures.0 in (
       c.put.ensures ∙ ap numbers_of said,
       (
-        traced.border.ensures.1.0,
-        rw (c.put.ensures, read_back named.of-traced.result, named.of-traced.ensures) traced.border.ensures.1.1,
+        traced.border-traced.ensures.1.0,
+        rw (c.put.ensures, read_back named.of_traced.result, named.of_traced.ensures) traced.border-traced.ensures.1.1,
       ),
     )
 
-pub rq-border-spec : {M : Type 1} → statement M
-rq-border-spec =
+pub rq_border_spec : {M : Type 1} → statement M
+rq_border_spec =
     tie.close (tie.spec (λ c κs. search rules) (λ c κs. search rules) (λ c κs. search rules) (λ c. search rules) returns)

@@ -10,10 +10,10 @@ returns : tie.Need-returns
 returns c =
     let named = c.before.before in
     let asked = named.before in
-    let said = named.of-comparison.ensures ∙ ap comparison_fields asked.relate.ensures.0 in (
+    let said = named.of_comparison.ensures ∙ ap comparison_fields asked.relate-comparison.ensures.0 in (
       c.put.ensures ∙ ap numbers_of said,
-      rw (c.put.ensures, read_back named.of-comparison.result, named.of-comparison.ensures) asked.relate.ensures.1,
+      rw (c.put.ensures, read_back named.of_comparison.result, named.of_comparison.ensures) asked.relate-comparison.ensures.1,
     )
 
-pub rq-compare-spec : {M : Type 1} → statement M
-rq-compare-spec = tie.close (tie.spec (λ c κs. search rules) (λ c κs. search rules) (λ c κs. search rules) returns)
+pub rq_compare_spec : {M : Type 1} → statement M
+rq_compare_spec = tie.close (tie.spec (λ c κs. search rules) (λ c κs. search rules) (λ c κs. search rules) returns)

@@ -11,14 +11,14 @@ returns : tie.Need-returns
 returns c =
     let named = c.before.before in
     let completed = named.before.before.before in
-    let said = named.of-completed.ensures ∙ ap completed_fields completed.complete.ensures.0 in (
+    let said = named.of_completed.ensures ∙ ap completed_fields completed.complete-completed.ensures.0 in (
       c.put.ensures ∙ ap numbers_of said,
       (
-        completed.complete.ensures.1.0,
-        rw (c.put.ensures, read_back named.of-completed.result, named.of-completed.ensures) completed.complete.ensures.1.1,
+        completed.complete-completed.ensures.1.0,
+        rw (c.put.ensures, read_back named.of_completed.result, named.of_completed.ensures) completed.complete-completed.ensures.1.1,
       ),
     )
 
-pub rq-complete-spec : {M : Type 1} → statement M
-rq-complete-spec =
+pub rq_complete_spec : {M : Type 1} → statement M
+rq_complete_spec =
     tie.close (tie.spec (λ c κs. search rules) (λ c κs. search rules) (λ c κs. search rules) (λ c. search rules) returns)

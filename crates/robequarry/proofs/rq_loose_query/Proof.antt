@@ -10,11 +10,11 @@ returns : tie.Need-returns
 returns c =
     let named = c.before.before in
     let asked = named.before in
-    let said = named.of-position.ensures ∙ ap position_fields asked.loose-query.ensures.0 in (
+    let said = named.of_position.ensures ∙ ap position_fields asked.loose_query-position.ensures.0 in (
       c.put.ensures ∙ ap numbers_of said,
-      rw (c.put.ensures, read_back named.of-position.result, named.of-position.ensures) asked.loose-query.ensures.1,
+      rw (c.put.ensures, read_back named.of_position.result, named.of_position.ensures) asked.loose_query-position.ensures.1,
     )
 
-pub rq-loose-query-spec : {M : Type 1} → statement M
-rq-loose-query-spec =
+pub rq_loose_query_spec : {M : Type 1} → statement M
+rq_loose_query_spec =
     tie.close (tie.spec (λ c κs. search rules) (λ c κs. search rules) (λ c κs. search rules) returns)

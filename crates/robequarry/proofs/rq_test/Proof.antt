@@ -10,14 +10,14 @@ returns : tie.Need-returns
 returns c =
     let named = c.before.before in
     let tested = named.before.before in
-    let said = named.of-verdict.ensures ∙ tested.test.ensures.1.0 in (
+    let said = named.of_verdict.ensures ∙ tested.test-verdict.ensures.1.0 in (
       c.put.ensures ∙ ap numbers_of said,
       (
-        tested.test.ensures.1.1.0,
-        rw (c.put.ensures, read_back named.of-verdict.result, named.of-verdict.ensures) tested.test.ensures.1.1.1,
+        tested.test-verdict.ensures.1.1.0,
+        rw (c.put.ensures, read_back named.of_verdict.result, named.of_verdict.ensures) tested.test-verdict.ensures.1.1.1,
       ),
     )
 
-pub rq-test-spec : {M : Type 1} → statement M
-rq-test-spec =
+pub rq_test_spec : {M : Type 1} → statement M
+rq_test_spec =
     tie.close (tie.spec (λ c κs. search rules) (λ c κs. search rules) (λ c κs. search rules) (λ c. search rules) returns)

@@ -11,14 +11,14 @@ returns : tie.Need-returns
 returns c =
     let named = c.before.before in
     let asked = named.before.before.before in
-    let said = named.of-witnessed.ensures ∙ ap witnessed_fields asked.witness.ensures.0 in (
+    let said = named.of_witnessed.ensures ∙ ap witnessed_fields asked.witness-witnessed.ensures.0 in (
       c.put.ensures ∙ ap numbers_of said,
       (
-        asked.witness.ensures.1.0,
-        rw (c.put.ensures, read_back named.of-witnessed.result, named.of-witnessed.ensures) asked.witness.ensures.1.1,
+        asked.witness-witnessed.ensures.1.0,
+        rw (c.put.ensures, read_back named.of_witnessed.result, named.of_witnessed.ensures) asked.witness-witnessed.ensures.1.1,
       ),
     )
 
-pub rq-witness-spec : {M : Type 1} → statement M
-rq-witness-spec =
+pub rq_witness_spec : {M : Type 1} → statement M
+rq_witness_spec =
     tie.close (tie.spec (λ c κs. search rules) (λ c κs. search rules) (λ c κs. search rules) (λ c. search rules) returns)

@@ -18,43 +18,43 @@ module _ (s : Point) (w : List ℕ) (h : Simple (outline s w)) where
   simple : Simple (outline (corner_numbered (numbered s)) w)
   simple = subst (λ (o : Outline). Simple o) (sym same) h
 
-abbrev invariant-loop : tie.invariant-loop
+abbrev invariant-loop : tie.invariant-loop-i
 invariant-loop w lo₀ en₀ hi₀ low₀ high₀ number₀ i₀ lo en hi low high number i =
     Passing (outline (corner_numbered number₀) w) i (corner_numbered number) lo en hi low high
 
-abbrev decreases-loop : tie.decreases-loop
+abbrev decreases-loop : tie.decreases-loop-i
 decreases-loop w lo₀ en₀ hi₀ low₀ high₀ number₀ i₀ lo en hi low high number i = length w - i
 
-loop-holds : tie.Need-loop-init invariant-loop decreases-loop
+loop-holds : tie.Need-loop-i-init invariant-loop decreases-loop
 loop-holds c = let args = c.before.before.before.args in passing-start (outline (corner_numbered (numbered args.s)) args.w.now)
 
 mark-requires : tie.Need-mark-requires invariant-loop decreases-loop
-mark-requires c κs = let k = c.before.before.before.before.before.before.before.loop.invariant in (k.lo_size, k.en_size, k.hi_size)
+mark-requires c κs = let k = c.before.before.before.before.before.before.before.loop-i.invariant in (k.lo_size, k.en_size, k.hi_size)
 
-loop-again : tie.Need-loop-preserved invariant-loop decreases-loop
+loop-again : tie.Need-loop-i-preserved invariant-loop decreases-loop
 loop-again c =
     let added = c.before.before.before.before.before.before in
     let loop = added.before.before.before.before in
     let at = loop.before.before.before.before in
-    let iteration = loop.loop in
+    let iteration = loop.loop-i in
     let o : Outline = outline (corner_numbered (numbered at.args.s)) at.args.w.now in
-    passing-next o iteration.i (corner_numbered iteration.number) iteration.lo iteration.en iteration.hi
-    iteration.low iteration.high (omega arith) iteration.invariant _ _ _ c.before.lesser.result c.greater.result _
-    c.before.before.mark.ensures c.before.lesser.ensures c.greater.ensures
+    passing-next o iteration.i (corner_numbered iteration.number) iteration.lo-1 iteration.en-1 iteration.hi-1
+    iteration.low iteration.high (omega arith) iteration.invariant _ _ _ c.before.lesser-low.result c.greater-high.result _
+    c.before.before.mark.ensures c.before.lesser-low.ensures c.greater-high.ensures
     (next-numbered o (simple at.args.s at.args.w.now at.requires) iteration.i iteration.number
-    added.wrapping-add-u16.result (omega arith) iteration.invariant.at
-    (wrapped_sum iteration.number _ added.before.stride.result added.wrapping-add-u16.result
-    added.before.stride.ensures added.wrapping-add-u16.ensures))
+    added.wrapping_add_u16-next.result (omega arith) iteration.invariant.at
+    (wrapped_sum iteration.number _ added.before.stride.result added.wrapping_add_u16-next.result
+    added.before.stride.ensures added.wrapping_add_u16-next.ensures))
 
 returns : tie.Need-returns invariant-loop decreases-loop
 returns c =
     let at = c.before.before.before.before.before in
-    let iteration = c.before.loop in
+    let iteration = c.before.loop-i in
     subst
-    (λ (o : Outline). Passed o iteration.lo iteration.en iteration.hi iteration.low iteration.high)
+    (λ (o : Outline). Passed o iteration.lo-1 iteration.en-1 iteration.hi-1 iteration.low iteration.high)
     (same at.args.s at.args.w.now at.requires)
     (passing-end (outline (corner_numbered (numbered at.args.s)) at.args.w.now) iteration.i (corner_numbered iteration.number)
-    iteration.lo iteration.en iteration.hi iteration.low iteration.high (omega arith) iteration.invariant)
+    iteration.lo-1 iteration.en-1 iteration.hi-1 iteration.low iteration.high (omega arith) iteration.invariant)
 
 pub pass_spec : {M : Type 1} → statement M
 pass_spec =

@@ -18,19 +18,19 @@ products c =
       b-far = product_small _ _ (omega arith) (omega arith);
     }
 
-mul-result : tie.Need-overflow-mul-result
+mul-result : tie.Need-overflow_mul-result
 mul-result c = omega (arith, products c)
 
-mul-result-2 : tie.Need-overflow-mul-result-2
+mul-result-2 : tie.Need-overflow_mul-result-2
 mul-result-2 c = omega (arith, products c)
 
-add-result : tie.Need-overflow-add-result
+add-result : tie.Need-overflow_add-result
 add-result c = omega (arith, products c)
 
-mul-result-3 : tie.Need-overflow-mul-result-3
+mul-result-3 : tie.Need-overflow_mul-result-3
 mul-result-3 c = omega (arith, products c)
 
-pub as-far-left-spec : {M : Type 1} → statement M
-as-far-left-spec =
+pub as_far_left_spec : {M : Type 1} → statement M
+as_far_left_spec =
     tie.close
     (tie.spec mul-result (λ c. search rules) mul-result-2 add-result mul-result-3 (λ c. refl))

@@ -7,34 +7,34 @@ use Rattle.rows.proofs.crossing.Statement.{statement}
 use Rattle.rows.proofs.crossing.Tie as tie
 
 -- Bounds of the two products
-record Products (c : tie.After-begins2) : Type 0 where
-  lower : c.before.begins.result * (c.before.before.args.j - c.before.before.args.r) ≤ 16711425
-  upper : c.begins2.result * (c.before.before.args.r - c.before.before.args.i) ≤ 16711425
+record Products (c : tie.After-begins-b) : Type 0 where
+  lower : c.before.begins-a.result * (c.before.before.args.j - c.before.before.args.r) ≤ 16711425
+  upper : c.begins-b.result * (c.before.before.args.r - c.before.before.args.i) ≤ 16711425
 
-products : (c : tie.After-begins2) → Products c
+products : (c : tie.After-begins-b) → Products c
 products c = record { lower = product_small _ _ (omega arith) (omega arith); upper = product_small _ _ (omega arith) (omega arith) }
 
-mul-col : tie.Need-overflow-mul-col
+mul-col : tie.Need-overflow_mul-col
 mul-col c = omega (arith, products c)
 
-mul-col-2 : tie.Need-overflow-mul-col-2
+mul-col-2 : tie.Need-overflow_mul-col-2
 mul-col-2 c = omega (arith, products c)
 
-add-col : tie.Need-overflow-add-col
+add-col : tie.Need-overflow_add-col
 add-col c = omega (arith, products c)
 
-add-col-2 : tie.Need-overflow-add-col-2
+add-col-2 : tie.Need-overflow_add-col-2
 add-col-2 c = omega (arith, products c)
 
 -- The column is that of the definition, and has 16 bits
-found : (c : tie.After-begins2) →
+found : (c : tie.After-begins-b) →
     let args = c.before.before.args in
-    let col = ((args.j - args.r) * c.before.begins.result + (args.r - args.i) * c.begins2.result + (args.j - args.i - 1)) / (args.j - args.i) in
+    let col = ((args.j - args.r) * c.before.begins-a.result + (args.r - args.i) * c.begins-b.result + (args.j - args.i - 1)) / (args.j - args.i) in
     (col ≡ crossing (rows args.lo.now) args.i args.j args.r) × (col < 65536)
 unfolding crossing
 found c =
-    let a = c.before.begins.ensures in
-    let b = c.begins2.ensures in
+    let a = c.before.begins-a.ensures in
+    let b = c.begins-b.ensures in
     let args = c.before.before.args in
     rw (a.0, b.0) (
       refl,
@@ -42,14 +42,14 @@ found c =
           (omega arith),
     )
 
-cast-result : tie.Need-overflow-cast-result
+cast-result : tie.Need-overflow_cast-result
 cast-result c = omega (arith, (found c).1)
 
 returns : tie.Need-returns
 returns c = found c
 
-pub crossing-spec : {M : Type 1} → statement M
-crossing-spec =
+pub crossing_spec : {M : Type 1} → statement M
+crossing_spec =
     tie.close
     (tie.spec (λ c. search rules) (λ c. search rules) (λ c. search rules) (λ c κs. search rules) (λ c κs. search rules)
     (λ c. search rules) (λ c. search rules) mul-col (λ c. search rules) mul-col-2 add-col (λ c. search rules) add-col-2

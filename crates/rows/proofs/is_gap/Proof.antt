@@ -19,12 +19,12 @@ below_quotient x y h pos =
     not-below n = elim (dec_lt x (y * h)) [ yes m ↦ absurd (n m) | no m ↦ omega arith ]
 
 -- Bounds of the three products
-record Products (c : tie.After-begins3) : Type 0 where
-  lower : c.before.before.begins.result * (c.before.before.before.args.j - c.before.before.before.args.r) ≤ 16711425
-  upper : c.before.begins2.result * (c.before.before.before.args.r - c.before.before.before.args.i) ≤ 16711425
-  here : c.begins3.result * (c.before.before.before.args.j - c.before.before.before.args.i) ≤ 16711425
+record Products (c : tie.After-begins-c) : Type 0 where
+  lower : c.before.before.begins-a.result * (c.before.before.before.args.j - c.before.before.before.args.r) ≤ 16711425
+  upper : c.before.begins-b.result * (c.before.before.before.args.r - c.before.before.before.args.i) ≤ 16711425
+  here : c.begins-c.result * (c.before.before.before.args.j - c.before.before.before.args.i) ≤ 16711425
 
-products : (c : tie.After-begins3) → Products c
+products : (c : tie.After-begins-c) → Products c
 products c =
     record {
       lower = product_small _ _ (omega arith) (omega arith);
@@ -32,27 +32,27 @@ products c =
       here = product_small _ _ (omega arith) (omega arith);
     }
 
-mul-result : tie.Need-overflow-mul-result
+mul-result : tie.Need-overflow_mul-result
 mul-result c = omega (arith, products c)
 
-mul-result-2 : tie.Need-overflow-mul-result-2
+mul-result-2 : tie.Need-overflow_mul-result-2
 mul-result-2 c = omega (arith, products c)
 
-add-result : tie.Need-overflow-add-result
+add-result : tie.Need-overflow_add-result
 add-result c = omega (arith, products c)
 
-add-result-2 : tie.Need-overflow-add-result-2
+add-result-2 : tie.Need-overflow_add-result-2
 add-result-2 c = omega (arith, products c)
 
-mul-result-3 : tie.Need-overflow-mul-result-3
+mul-result-3 : tie.Need-overflow_mul-result-3
 mul-result-3 c = omega (arith, products c)
 
 returns : tie.Need-returns
 unfolding crossing
 returns c =
-    let a = c.before.before.begins.ensures in
-    let b = c.before.begins2.ensures in
-    let d = c.begins3.ensures in
+    let a = c.before.before.begins-a.ensures in
+    let b = c.before.begins-b.ensures in
+    let d = c.begins-c.ensures in
     let args = c.before.before.before.args in
     let i = args.i in
     let j = args.j in
@@ -61,8 +61,8 @@ returns c =
     let tall : 0 < j - i = omega arith in
     rw (a.0, b.0, d.0) (below_quotient ((j - r) * lo i + (r - i) * lo j + (j - i - 1)) (lo r) (j - i) tall)
 
-pub is-gap-spec : {M : Type 1} → statement M
-is-gap-spec =
+pub is_gap_spec : {M : Type 1} → statement M
+is_gap_spec =
     tie.close
     (tie.spec (λ c κs. search rules) (λ c κs. search rules) (λ c κs. search rules) (λ c. search rules) (λ c. search rules) mul-result
     (λ c. search rules) mul-result-2 add-result (λ c. search rules) add-result-2 mul-result-3 returns)

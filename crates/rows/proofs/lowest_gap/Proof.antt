@@ -5,15 +5,15 @@ use Rattle.rows.proofs.SearchLaws.{lowest_gap-left, lowest_gap-right}
 use Rattle.rows.proofs.lowest_gap.Statement.{statement}
 use Rattle.rows.proofs.lowest_gap.Tie as tie
 
-returns : tie.Need-returns
+returns : tie.Need-returns-then-left-right
 returns c =
     let args = c.before.before.before.before.before.before.before.before.before.before.before.args in
-    let left = c.before.before.before.before.before.before.before.chain in
-    let mirror = c.before.before.before.before.before.mirrored in
-    let right = c.before.before.before.chain2 in
+    let left = c.before.before.before.before.before.before.before.chain-left in
+    let mirror = c.before.before.before.before.before.mirrored-mirror in
+    let right = c.before.before.before.chain-right in
     lowest_gap-left
-    (rows args.ends.lo)
-    (rows args.ends.hi)
+    (rows args.ends.lo-1)
+    (rows args.ends.hi-1)
     (rows mirror.result)
     args.b
     args.t
@@ -24,15 +24,15 @@ returns c =
     right.ensures.0
     (omega arith)
 
-returns-2 : tie.Need-returns-2
-returns-2 c = rw c.wide.ensures.0 (
+returns-2 : tie.Need-returns
+returns-2 c = rw c.wide-row.ensures.0 (
     let args = c.before.before.before.before.before.before.before.before.before.before.before.before.args in
-    let left = c.before.before.before.before.before.before.before.before.chain in
-    let mirror = c.before.before.before.before.before.before.mirrored in
-    let right = c.before.before.before.before.chain2 in
+    let left = c.before.before.before.before.before.before.before.before.chain-left in
+    let mirror = c.before.before.before.before.before.before.mirrored-mirror in
+    let right = c.before.before.before.before.chain-right in
     lowest_gap-right
-    (rows args.ends.lo)
-    (rows args.ends.hi)
+    (rows args.ends.lo-1)
+    (rows args.ends.hi-1)
     (rows mirror.result)
     args.b
     args.t
@@ -43,8 +43,8 @@ returns-2 c = rw c.wide.ensures.0 (
     right.ensures.0
     (omega arith))
 
-pub lowest-gap-spec : {M : Type 1} → statement M
-lowest-gap-spec =
+pub lowest_gap_spec : {M : Type 1} → statement M
+lowest_gap_spec =
     tie.close
     (tie.spec (λ c κs. search rules) (λ c κs. search rules) (λ c κs. search rules) returns (λ c κs. search rules) (λ c. search rules)
     (λ c. search rules) returns-2)

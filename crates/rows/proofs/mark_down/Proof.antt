@@ -6,7 +6,7 @@ use Rattle.rows.proofs.RowLaws.{down-along, along-down, marked-set, marked-none}
 use Rattle.rows.proofs.mark_down.Statement.{statement}
 use Rattle.rows.proofs.mark_down.Tie as tie
 
-returns : tie.Need-returns
+returns : tie.Need-returns-then-row-gt0
 returns c =
     let args = c.before.before.before.args in
     marked-set
@@ -14,19 +14,19 @@ returns c =
     (args.number % 256)
     args.hi.now
     (omega arith)
-    (c.before.before.wide.result - 1)
+    (c.before.before.wide-row.result - 1)
     (omega arith)
-    (along-down (corner_numbered args.number) args.letter (c.before.before.wide.result - 1) (omega arith)
+    (along-down (corner_numbered args.number) args.letter (c.before.before.wide-row.result - 1) (omega arith)
     (omega (arith, ltb-true)))
     (λ r e. omega (arith, down-along (corner_numbered args.number) args.letter r e))
 
-returns-2 : tie.Need-returns-2
+returns-2 : tie.Need-returns-else-letter-eq3
 returns-2 c =
     let args = c.before.before.args in
     marked-none (down_along (corner_numbered args.number) args.letter) (args.number % 256) args.hi.now (omega arith) λ r e.
     let (letter, row) = down-along (corner_numbered args.number) args.letter r e in
-    ⊎_elim (λ w. omega (arith, ltb-false)) (λ w. w.left letter) c.if1.branch
+    ⊎_elim (λ w. omega (arith, ltb-false)) (λ w. w.left letter) c.if-letter-eq3.branch
 
-pub mark-down-spec : {M : Type 1} → statement M
-mark-down-spec =
+pub mark_down_spec : {M : Type 1} → statement M
+mark_down_spec =
     tie.close (tie.spec (λ c κs. search rules) (λ c. search rules) (λ c. search rules) (λ c. search rules) returns returns-2)

@@ -6,18 +6,18 @@ use Rattle.rows.specs.parts.Rows.{rows}
 use Rattle.rows.proofs.mirrored.Statement.{statement}
 use Rattle.rows.proofs.mirrored.Tie as tie
 
-abbrev invariant-loop : tie.invariant-loop
+abbrev invariant-loop : tie.invariant-loop-k
 invariant-loop hi left₀ k₀ left k = (k ≤ 256) × (length left ≡ 256) × ((m : ℕ) → m < k → rows left m ≡ side - rows hi m)
 
-abbrev decreases-loop : tie.decreases-loop
+abbrev decreases-loop : tie.decreases-loop-k
 decreases-loop hi left₀ k₀ left k = 256 - k
 
-loop-holds : tie.Need-loop-init invariant-loop decreases-loop
+loop-holds : tie.Need-loop-k-init invariant-loop decreases-loop
 loop-holds c = (omega arith, refl, λ m h. absurd (omega arith))
 
-loop-again : tie.Need-loop-preserved invariant-loop decreases-loop
+loop-again : tie.Need-loop-k-preserved invariant-loop decreases-loop
 loop-again c =
-    let iteration = c.before.before.before.loop in
+    let iteration = c.before.before.before.loop-k in
     let hi = c.before.before.before.before.args.hi.now in
     let x = c.remaining.result in (
       omega arith,
@@ -30,10 +30,10 @@ loop-again c =
     )
 
 returns : tie.Need-returns invariant-loop decreases-loop
-returns c = λ k h. c.before.loop.invariant.2 k (omega arith)
+returns c = λ k h. c.before.loop-k.invariant.2 k (omega arith)
 
-pub mirrored-spec : {M : Type 1} → statement M
-mirrored-spec =
+pub mirrored_spec : {M : Type 1} → statement M
+mirrored_spec =
     tie.close
     (tie.spec invariant-loop decreases-loop loop-holds (λ c. omega arith) (λ c. omega arith) (λ c κs. tt) (λ c. omega arith) (λ c. omega arith)
     (λ c. omega arith) (λ c. omega arith) loop-again returns)

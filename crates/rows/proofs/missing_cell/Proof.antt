@@ -8,19 +8,19 @@ use Rattle.chart.specs.Outline.{outline}
 use Rattle.rows.proofs.missing_cell.Statement.{statement}
 use Rattle.rows.proofs.missing_cell.Tie as tie
 
-returns : tie.Need-returns
+returns : tie.Need-returns-then-top-gt-SIDE
 returns c = found-high _ _ _ (omega arith)
 
-returns-2 : tie.Need-returns-2
+returns-2 : tie.Need-returns-then-top-bottom
 returns-2 c = found_below _ _ _ (omega arith)
 
-returns-3 : tie.Need-returns-3
+returns-3 : tie.Need-returns
 returns-3 c =
     let args = c.before.before.before.before.before.before.before.args in
     let ends = c.before.before.before.row_ends in
     let b = c.before.before.wide in
-    let t = c.before.wide2 in
-    c.lowest-gap.ensures
+    let t = c.before.wide-2 in
+    c.lowest_gap.ensures
     ∙ rw (
       b.ensures.0,
       t.ensures.0,
@@ -36,7 +36,7 @@ returns-3 c =
     (λ r h. ends.ensures.lo_up r (omega arith))
     (λ r h. ends.ensures.hi_down r (omega arith)))
 
-pub missing-cell-spec : {M : Type 1} → statement M
-missing-cell-spec =
+pub missing_cell_spec : {M : Type 1} → statement M
+missing_cell_spec =
     tie.close
     (tie.spec returns returns-2 (λ c κs. search rules) (λ c κs. search rules) (λ c κs. search rules) (λ c κs. search rules) returns-3)

@@ -6,54 +6,54 @@ use Rattle.rows.proofs.RowLaws.{Marks, wrapped_sum, marks-start, marks-next, mar
 use Rattle.rows.proofs.row_ends.Statement.{statement}
 use Rattle.rows.proofs.row_ends.Tie as tie
 
-abbrev invariant-loop : tie.invariant-loop
+abbrev invariant-loop : tie.invariant-loop-i
 invariant-loop w lo₀ hi₀ number₀ i₀ lo hi number i = Marks number₀ w i number lo hi
 
-abbrev decreases-loop : tie.decreases-loop
+abbrev decreases-loop : tie.decreases-loop-i
 decreases-loop w lo₀ hi₀ number₀ i₀ lo hi number i = length w - i
 
-loop-holds : tie.Need-loop-init invariant-loop decreases-loop
+loop-holds : tie.Need-loop-i-init invariant-loop decreases-loop
 loop-holds c = marks-start (numbered c.before.before.before.args.s) c.before.before.before.args.w.now
 
-mark-up-requires : tie.Need-mark-up-requires invariant-loop decreases-loop
-mark-up-requires c κs = c.before.before.before.before.before.loop.invariant.ups.size
+mark-up-requires : tie.Need-mark_up-requires invariant-loop decreases-loop
+mark-up-requires c κs = c.before.before.before.before.before.loop-i.invariant.ups.size
 
-mark-down-requires : tie.Need-mark-down-requires invariant-loop decreases-loop
-mark-down-requires c κs = c.before.before.before.before.before.before.before.loop.invariant.downs.size
+mark-down-requires : tie.Need-mark_down-requires invariant-loop decreases-loop
+mark-down-requires c κs = c.before.before.before.before.before.before.before.loop-i.invariant.downs.size
 
-loop-again : tie.Need-loop-preserved invariant-loop decreases-loop
+loop-again : tie.Need-loop-i-preserved invariant-loop decreases-loop
 loop-again c =
     let added = c.before.before.before.before in
-    let iteration = added.before.before.before.before.loop in
+    let iteration = added.before.before.before.before.loop-i in
     let args = added.before.before.before.before.before.before.before.before.args in
-    let up = c.before.before.mark-up in
-    let down = c.mark-down in
+    let up = c.before.before.mark_up in
+    let down = c.mark_down in
     marks-next
     (numbered args.s)
     args.w.now
     iteration.i
     iteration.number
-    added.wrapping-add-u16.result
-    iteration.lo
-    iteration.hi
+    added.wrapping_add_u16-next.result
+    iteration.lo-1
+    iteration.hi-1
     up.new.0
     down.new.0
     (omega arith)
     up.ensures
     down.ensures
-    (wrapped_sum iteration.number _ added.before.stride.result added.wrapping-add-u16.result added.before.stride.ensures
-    added.wrapping-add-u16.ensures)
+    (wrapped_sum iteration.number _ added.before.stride.result added.wrapping_add_u16-next.result added.before.stride.ensures
+    added.wrapping_add_u16-next.ensures)
     iteration.invariant
 
 returns : tie.Need-returns invariant-loop decreases-loop
 returns c =
     let args = c.before.before.before.before.before.args in
-    let iteration = c.before.loop in
-    marks-end (outline args.s args.w.now) iteration.i iteration.number iteration.lo iteration.hi (omega arith)
+    let iteration = c.before.loop-i in
+    marks-end (outline args.s args.w.now) iteration.i iteration.number iteration.lo-1 iteration.hi-1 (omega arith)
     iteration.invariant
 
-pub row-ends-spec : {M : Type 1} → statement M
-row-ends-spec =
+pub row_ends_spec : {M : Type 1} → statement M
+row_ends_spec =
     tie.close
     (tie.spec invariant-loop decreases-loop (λ c. omega arith) (λ c. omega arith) loop-holds (λ c. omega arith) (λ c κs. search rules)
     (λ c κs. search rules) mark-up-requires mark-down-requires (λ c. omega arith) (λ c. omega arith) loop-again returns)

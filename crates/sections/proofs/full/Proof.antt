@@ -6,7 +6,7 @@ use Rattle.sections.proofs.full.Tie as tie
 
 returns : tie.Need-returns
 unfolding full
-returns c = rw (c.number2.ensures.0, c.before.number.ensures.0)
+returns c = rw (c.number-2.ensures.0, c.before.number.ensures.0)
 
-pub full-spec : {M : Type 1} → statement M
-full-spec = tie.close (tie.spec (λ c κs. search rules) (λ c κs. search rules) returns)
+pub full_spec : {M : Type 1} → statement M
+full_spec = tie.close (tie.spec (λ c κs. search rules) (λ c κs. search rules) returns)

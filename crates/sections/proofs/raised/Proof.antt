@@ -9,13 +9,13 @@ use Rattle.sections.proofs.Quotients.{product_small, above-taken, above-left, ab
 use Rattle.sections.proofs.raised.Statement.{statement}
 use Rattle.sections.proofs.raised.Tie as tie
 
-mul-if1 : tie.Need-overflow-mul-if1
+mul-if1 : tie.Need-overflow_mul-d
 mul-if1 c = omega (arith, product_small c.args.d c.args.high (omega arith) (omega arith))
 
 small : (c : tie.Start) → above c.args.a c.args.d ≤ side
 small c = above-small c.args.a c.args.d (omega arith) (omega arith)
 
-add-result : tie.Need-overflow-add-result
+add-result : tie.Need-overflow_add-result
 unfolding above
 add-result c = omega (arith, small c.before)
 
@@ -25,7 +25,7 @@ larger a b h = omega arith
 not-smaller : (a b : ℕ) → b ≤ a → a ≡ max a b
 not-smaller a b h = omega arith
 
-returns : tie.Need-returns
+returns : tie.Need-returns-then-d-high
 unfolding above
 returns c =
     let args = c.before.args in
@@ -33,12 +33,12 @@ returns c =
     let m = larger args.high (above args.a args.d) l in
     (omega (arith, m), omega (arith, small c.before))
 
-returns-2 : tie.Need-returns-2
+returns-2 : tie.Need-returns-else-d-high
 returns-2 c =
     let args = c.before.args in (
       not-smaller args.high (above args.a args.d) (above-left args.high args.a args.d (omega arith) (omega arith)),
       omega arith,
     )
 
-pub raised-spec : {M : Type 1} → statement M
-raised-spec = tie.close (tie.spec mul-if1 (λ c. search rules) add-result returns returns-2)
+pub raised_spec : {M : Type 1} → statement M
+raised_spec = tie.close (tie.spec mul-if1 (λ c. search rules) add-result returns returns-2)

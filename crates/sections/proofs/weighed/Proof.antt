@@ -17,17 +17,17 @@ products c =
       right = product_small c.args.b c.args.y (omega arith) (omega arith);
     }
 
-mul-result : tie.Need-overflow-mul-result
+mul-result : tie.Need-overflow_mul-result
 mul-result c = omega (arith, products c)
 
-mul-result-2 : tie.Need-overflow-mul-result-2
+mul-result-2 : tie.Need-overflow_mul-result-2
 mul-result-2 c = omega (arith, products c)
 
-add-result : tie.Need-overflow-add-result
+add-result : tie.Need-overflow_add-result
 add-result c = omega (arith, products c)
 
 returns : tie.Need-returns
 returns c = (refl, omega (arith, products c))
 
-pub weighed-spec : {M : Type 1} → statement M
-weighed-spec = tie.close (tie.spec mul-result mul-result-2 add-result returns)
+pub weighed_spec : {M : Type 1} → statement M
+weighed_spec = tie.close (tie.spec mul-result mul-result-2 add-result returns)

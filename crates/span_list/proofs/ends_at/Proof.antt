@@ -6,10 +6,10 @@ use Rattle.span_list.proofs.ends_at.Tie as tie
 
 returns : tie.Need-returns
 unfolding ends_at
-returns c = rw (c.wide2.ensures, c.before.before.wide.ensures)
+returns c = rw (c.wide-2.ensures, c.before.before.wide.ensures)
 
-pub ends-at-spec : {M : Type 1} → statement M
-ends-at-spec =
+pub ends_at_spec : {M : Type 1} → statement M
+ends_at_spec =
     tie.close
     (tie.spec (λ c. search rules) (λ c. search rules) (λ c. search rules) (λ c κs. search rules) (λ c. search rules) (λ c. search rules)
     (λ c κs. search rules) returns)

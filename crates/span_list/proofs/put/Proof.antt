@@ -10,8 +10,8 @@ returns c =
     let s = c.before.before.before.before.before.before.before.before.before in
     let second = c.before.before in
     let first = second.before.before.before.before in
-    halves-list s.args.rows.now s.args.slot (spans_from s.args.first.now s.args.past.now) _ first.put-rows.ensures _
-    second.put-rows2.ensures
+    halves-list s.args.rows-1.now s.args.slot (spans_from s.args.first.now s.args.past.now) _ first.put_rows.ensures _
+    second.put_rows-2.ensures
 
 pub put_spec : {M : Type 1} → statement M
 put_spec =

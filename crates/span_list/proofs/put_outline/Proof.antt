@@ -10,7 +10,7 @@ returns c =
     let put = c.before.before in
     let found = put.before.before.before.before.before in
     let start = found.before.before.before in
-    put.put.ensures ∙ ap (rows_put start.args.rows.now start.args.slot) found.spans-of.ensures
+    put.put.ensures ∙ ap (rows_put start.args.rows-1.now start.args.slot) found.spans_of-spans.ensures
 
-pub put-outline-spec : {M : Type 1} → statement M
-put-outline-spec = tie.close (tie.spec (λ c κs. search rules) (λ c κs. search rules) (λ c. search rules) returns)
+pub put_outline_spec : {M : Type 1} → statement M
+put_outline_spec = tie.close (tie.spec (λ c κs. search rules) (λ c κs. search rules) (λ c. search rules) returns)

@@ -4,13 +4,13 @@ use borrow.Author.Rules.{rules}
 use Rattle.span_list.proofs.within.Statement.{statement}
 use Rattle.span_list.proofs.within.Tie as tie
 
-returns : tie.Need-returns
+returns : tie.Need-returns-then-ends-cell
 returns c = let s = c.before.before.before.before.before.before.before in
-    within-right _ _ _ s.requires.1 _ c.before.before.before.before.before.ends_at.ensures _ c.before.before.if1.true
+    within-right _ _ _ s.requires.1 _ c.before.before.before.before.before.ends_at-ends.ensures _ c.before.before.if-ends-cell.true
 
-returns-2 : tie.Need-returns-2
+returns-2 : tie.Need-returns-else-ends-cell
 returns-2 c = let s = c.before.before.before.before.before in
-    within-left _ _ _ s.requires.1 _ c.before.before.before.ends_at.ensures _ c.if1.false
+    within-left _ _ _ s.requires.1 _ c.before.before.before.ends_at-ends.ensures _ c.if-ends-cell.false
 
-pub within-spec : {M : Type 1} → statement M
-within-spec = tie.close (tie.spec (λ c κs. search rules) returns returns-2)
+pub within_spec : {M : Type 1} → statement M
+within_spec = tie.close (tie.spec (λ c κs. search rules) returns returns-2)

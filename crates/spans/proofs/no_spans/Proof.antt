@@ -8,5 +8,5 @@ returns : tie.Need-returns
 unfolding no_spans
 returns c = refl
 
-pub no-spans-spec : {M : Type 1} → statement M
-no-spans-spec = tie.close (tie.spec returns)
+pub no_spans_spec : {M : Type 1} → statement M
+no_spans_spec = tie.close (tie.spec returns)

@@ -5,20 +5,20 @@ use Rattle.spans.specs.Spans.{span_from, span_at}
 use Rattle.spans.proofs.span_at.Statement.{statement}
 use Rattle.spans.proofs.span_at.Tie as tie
 
-returns : tie.Need-returns
+returns : tie.Need-returns-then-row-ge-SIDE
 unfolding span_at
-returns c = rw (le-leb _ _ c.if1.true)
+returns c = rw (le-leb _ _ c.if-row-ge-SIDE.true)
 
-returns-2 : tie.Need-returns-2
+returns-2 : tie.Need-returns-then-first-past
 unfolding span_at span_from
-returns-2 c = rw (lt-leb _ _ c.before.before.before.if1.false, lt-ltb _ _ c.if2.true)
+returns-2 c = rw (lt-leb _ _ c.before.before.before.if-row-ge-SIDE.false, lt-ltb _ _ c.if-first-past.true)
 
-returns-3 : tie.Need-returns-3
+returns-3 : tie.Need-returns-else-first-past
 unfolding span_at span_from
-returns-3 c = rw (lt-leb _ _ c.before.before.before.if1.false, le-ltb _ _ c.if2.false)
+returns-3 c = rw (lt-leb _ _ c.before.before.before.if-row-ge-SIDE.false, le-ltb _ _ c.if-first-past.false)
 
-pub span-at-spec : {M : Type 1} → statement M
-span-at-spec =
+pub span_at_spec : {M : Type 1} → statement M
+span_at_spec =
     tie.close
     (tie.spec returns (λ c. search rules) (λ c. search rules) (λ c. search rules) (λ c. search rules) (λ c. search rules) returns-2
     returns-3)

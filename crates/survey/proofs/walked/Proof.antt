@@ -12,34 +12,34 @@ use Rattle.survey.proofs.SurveyLaws.{none_found, walk-leaves, walk-unclosed}
 use Rattle.survey.proofs.walked.Statement.{statement}
 use Rattle.survey.proofs.walked.Tie as tie
 
-col-number-requires : tie.Need-col-number-requires
+col-number-requires : tie.Need-col_number-requires
 col-number-requires c κs = let h = start-on-chart _ c.before.before.before.requires.started in (h.col, h.row)
 
 -- What the walk without marks finds, and that no letter leaves the chart if it finds none
-module _ (c : tie.After-walk-on) where
+module _ (c : tie.After-walk_on-whole) where
   abbrev start : tie.Start
   start = c.before.before.before.before.before
 
-  rest : RestOf (outline start.args.start start.args.letters.now) c.walk-on.result
-  rest = c.walk-on.ensures start.args.start start.pre (out-start _ start.pre c.before.col-number.ensures)
+  rest : RestOf (outline start.args.start start.args.letters.now) c.walk_on-whole.result
+  rest = c.walk_on-whole.ensures start.args.start start.pre (out-start _ start.pre c.before.col_number.ensures)
 
-stays : (c : tie.Else2) → Stays (outline (start c.before).args.start (start c.before).args.letters.now)
-stays c = none_found (rest c.before).place c.if2.false
+stays : (c : tie.Else-left-letters) → Stays (outline (start c.before).args.start (start c.before).args.letters.now)
+stays c = none_found (rest c.before).place c.if-left-letters.false
 
-cast-t9 : tie.Need-overflow-cast-t9
-cast-t9 c = omega (arith, counted-short _ (start c.before).pre.counted, c.if2.true)
+cast-t9 : tie.Need-overflow_cast-result
+cast-t9 c = omega (arith, counted-short _ (start c.before).pre.counted, c.if-left-letters.true)
 
-returns : tie.Need-returns
-returns c = walk-leaves _ (start c.before).pre (rest c.before).place c.if2.true
+returns : tie.Need-returns-then-left-letters
+returns c = walk-leaves _ (start c.before).pre (rest c.before).place c.if-left-letters.true
 
-returns-2 : tie.Need-returns-2
+returns-2 : tie.Need-returns-then-ends_away
 returns-2 c =
     let past = c.before.before in
-    walk-unclosed _ (start past.before).pre (stays past) ((rest past.before).number (stays past)) (sym c.before.ends-away.ensures
-    ∙ c.if3.true)
+    walk-unclosed _ (start past.before).pre (stays past) ((rest past.before).number (stays past)) (sym c.before.ends_away.ensures
+    ∙ c.if-ends_away.true)
 
-pub walked-spec : {M : Type 1} → statement M
-walked-spec =
+pub walked_spec : {M : Type 1} → statement M
+walked_spec =
     tie.close
     (tie.spec (λ c κs. search rules) col-number-requires (λ c κs. search rules) cast-t9 returns (λ c κs. search rules) returns-2
     (λ c κs. search rules) (λ c. search rules))

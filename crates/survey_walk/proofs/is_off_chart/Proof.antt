@@ -8,5 +8,5 @@ returns : tie.Need-returns
 unfolding off_chart
 returns c = refl
 
-pub is-off-chart-spec : {M : Type 1} → statement M
-is-off-chart-spec = tie.close (tie.spec returns)
+pub is_off_chart_spec : {M : Type 1} → statement M
+is_off_chart_spec = tie.close (tie.spec returns)

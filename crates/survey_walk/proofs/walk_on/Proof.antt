@@ -5,35 +5,35 @@ use Rattle.survey_walk.proofs.WalkLaws.{Further, further-next, further-leaves, f
 use Rattle.survey_walk.proofs.walk_on.Statement.{statement}
 use Rattle.survey_walk.proofs.walk_on.Tie as tie
 
-abbrev invariant-loop : tie.invariant-loop
+abbrev invariant-loop : tie.invariant-loop-i
 invariant-loop w from number by-col₀ i₀ by-col i = Further w i₀ by-col₀ i by-col
 
-abbrev decreases-loop : tie.decreases-loop
+abbrev decreases-loop : tie.decreases-loop-i
 decreases-loop w from number by-col₀ i₀ by-col i = length w - i
 
-loop-holds : tie.Need-loop-init invariant-loop decreases-loop
+loop-holds : tie.Need-loop-i-init invariant-loop decreases-loop
 loop-holds c = λ s b h. h
 
-returns : tie.Need-returns invariant-loop decreases-loop
+returns : tie.Need-returns-then-is_off_chart invariant-loop decreases-loop
 returns c =
     let added = c.before.before in
     let iteration = added.before.before.before in
-    further-leaves iteration.before.loop.invariant iteration.loop-test.true added.before.col-stride.ensures
-    (sym (ap off_chart added.wrapping-add-u32.ensures) ∙ sym c.before.is-off-chart.ensures ∙ c.if1.true)
+    further-leaves iteration.before.loop-i.invariant iteration.loop-i-test.true added.before.col_stride.ensures
+    (sym (ap off_chart added.wrapping_add_u32-by_col.ensures) ∙ sym c.before.is_off_chart.ensures ∙ c.if-is_off_chart.true)
 
-loop-again : tie.Need-loop-preserved invariant-loop decreases-loop
+loop-again : tie.Need-loop-i-preserved invariant-loop decreases-loop
 loop-again c =
     let added = c.before.before in
     let iteration = added.before.before.before in
-    rw added.wrapping-add-u32.ensures
-    (further-next iteration.before.loop.invariant iteration.loop-test.true added.before.col-stride.ensures
-    (sym (ap off_chart added.wrapping-add-u32.ensures) ∙ sym c.before.is-off-chart.ensures ∙ c.if1.false))
+    rw added.wrapping_add_u32-by_col.ensures
+    (further-next iteration.before.loop-i.invariant iteration.loop-i-test.true added.before.col_stride.ensures
+    (sym (ap off_chart added.wrapping_add_u32-by_col.ensures) ∙ sym c.before.is_off_chart.ensures ∙ c.if-is_off_chart.false))
 
-returns-2 : tie.Need-returns-2 invariant-loop decreases-loop
-returns-2 c = further-end c.before.loop.invariant c.loop-test.false
+returns-2 : tie.Need-returns invariant-loop decreases-loop
+returns-2 c = further-end c.before.loop-i.invariant c.loop-i-test.false
 
-pub walk-on-spec : {M : Type 1} → statement M
-walk-on-spec =
+pub walk_on_spec : {M : Type 1} → statement M
+walk_on_spec =
     tie.close
     (tie.spec invariant-loop decreases-loop loop-holds (λ c. search rules) (λ c κs. search rules) (λ c κs. search rules) (λ c κs. search rules) returns
     (λ c. search rules) (λ c. search rules) loop-again returns-2)

@@ -5,11 +5,11 @@ use borrow.Author.Rules.{rules}
 use Rattle.text_lines.proofs.put.Statement.{statement}
 use Rattle.text_lines.proofs.put.Tie as tie
 
-returns : tie.Need-returns
-returns c = wrote_none _ _ _ c.if1.true
+returns : tie.Need-returns-then-text-at
+returns c = wrote_none _ _ _ c.if-text-at.true
 
-returns-2 : tie.Need-returns-2
-returns-2 c = wrote_one _ _ _ (omega (arith, c.if1.false))
+returns-2 : tie.Need-returns
+returns-2 c = wrote_one _ _ _ (omega (arith, c.if-text-at.false))
 
 pub put_spec : {M : Type 1} → statement M
 put_spec = tie.close (tie.spec returns (λ c. search rules) (λ c. search rules) (λ c. search rules) returns-2)

@@ -7,7 +7,7 @@ use Rattle.text_lines.proofs.put_field.Tie as tie
 
 returns : tie.Need-returns
 unfolding field_text
-returns c = wrote-behind c.before.before.before.before.before.before.put-number.ensures c.before.before.put.ensures
+returns c = wrote-behind c.before.before.before.before.before.before.put_number-end.ensures c.before.before.put.ensures
 
-pub put-field-spec : {M : Type 1} → statement M
-put-field-spec = tie.close (tie.spec (λ c κs. search rules) (λ c κs. search rules) (λ c. search rules) returns)
+pub put_field_spec : {M : Type 1} → statement M
+put_field_spec = tie.close (tie.spec (λ c κs. search rules) (λ c κs. search rules) (λ c. search rules) returns)

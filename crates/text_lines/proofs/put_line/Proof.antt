@@ -8,10 +8,10 @@ use Rattle.text_lines.proofs.put_line.Tie as tie
 returns : tie.Need-returns
 unfolding line_text
 returns c =
-    wrote-behind c.before.before.before.before.before.before.before.before.before.before.put-field.ensures
-    (wrote-behind c.before.before.before.before.before.before.put-field2.ensures c.before.before.put-field3.ensures)
+    wrote-behind c.before.before.before.before.before.before.before.before.before.before.put_field-at.ensures
+    (wrote-behind c.before.before.before.before.before.before.put_field-at-2.ensures c.before.before.put_field.ensures)
 
-pub put-line-spec : {M : Type 1} → statement M
-put-line-spec =
+pub put_line_spec : {M : Type 1} → statement M
+put_line_spec =
     tie.close
     (tie.spec (λ c κs. search rules) (λ c κs. search rules) (λ c κs. search rules) (λ c. search rules) returns)

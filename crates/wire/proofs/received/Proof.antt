@@ -5,13 +5,13 @@ use borrow.Author.Rules.{rules}
 use Rattle.wire.proofs.received.Statement.{statement}
 use Rattle.wire.proofs.received.Tie as tie
 
-returns : tie.Need-returns
+returns : tie.Need-returns-then-room-lt-NUMBERS
 unfolding received
-returns c = rw (lt-leb _ _ c.if1.true)
+returns c = rw (lt-leb _ _ c.if-room-lt-NUMBERS.true)
 
-returns-2 : tie.Need-returns-2
+returns-2 : tie.Need-returns
 unfolding received
-returns-2 c = rw (le-leb _ _ c.before.if1.false) c.decode.ensures
+returns-2 c = rw (le-leb _ _ c.before.if-room-lt-NUMBERS.false) c.decode.ensures
 
-pub received-spec : {M : Type 1} → statement M
-received-spec = tie.close (tie.spec returns (λ c κs. search rules) returns-2)
+pub received_spec : {M : Type 1} → statement M
+received_spec = tie.close (tie.spec returns (λ c κs. search rules) returns-2)

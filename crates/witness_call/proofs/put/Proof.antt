@@ -7,22 +7,22 @@ use Rattle.witness.specs.Witnessed.{three_numbers}
 use Rattle.witness_call.proofs.put.Statement.{statement}
 use Rattle.witness_call.proofs.put.Tie as tie
 
-slice-write-cells : tie.Need-slice-write-cells
+slice-write-cells : tie.Need-bounds-cells-0
 slice-write-cells c = omega (arith, c.requires)
 
-slice-write-cells-2 : tie.Need-slice-write-cells-2
+slice-write-cells-2 : tie.Need-bounds-cells-1
 slice-write-cells-2 c = simp length-set (omega (arith, c.requires))
 
-slice-write-cells-3 : tie.Need-slice-write-cells-3
+slice-write-cells-3 : tie.Need-bounds-cells-2
 slice-write-cells-3 c = simp length-set (omega (arith, c.requires))
 
-slice-write-cells-4 : tie.Need-slice-write-cells-4
+slice-write-cells-4 : tie.Need-bounds-cells-3
 slice-write-cells-4 c = simp length-set (omega (arith, c.requires))
 
-slice-write-cells-5 : tie.Need-slice-write-cells-5
+slice-write-cells-5 : tie.Need-bounds-cells-4
 slice-write-cells-5 c = simp length-set (omega (arith, c.requires))
 
-slice-write-cells-6 : tie.Need-slice-write-cells-6
+slice-write-cells-6 : tie.Need-bounds-cells-5
 slice-write-cells-6 c = simp length-set (omega (arith, c.requires))
 
 returns : tie.Need-returns

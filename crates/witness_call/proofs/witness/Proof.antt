@@ -9,17 +9,17 @@ use Rattle.witness_call.proofs.witness.Tie as tie
 show-requires : tie.Need-show-requires
 show-requires c κs =
     let told = c.before.before in
-    survey-simple _ (sym told.before.before.survey.ensures ∙ told.surveyed2.given.1)
+    survey-simple _ (sym told.before.before.survey-surveyed.ensures ∙ told.surveyed-in-Passed-1.given.1)
 
-returns : tie.Need-returns
-returns c = stopped-answers _ _ (sym c.before.before.before.survey.ensures ∙ c.before.surveyed.given.1)
+returns : tie.Need-returns-in-Refused
+returns c = stopped-answers _ _ (sym c.before.before.before.survey-surveyed.ensures ∙ c.before.surveyed-1.given.1)
 
-returns-2 : tie.Need-returns-2
+returns-2 : tie.Need-returns-in-Passed
 returns-2 c =
     let told = c.before.before.before.before.before in
-    passed-answers _ _ (sym told.before.before.survey.ensures ∙ told.surveyed2.given.1) c.before.before.show.ensures
+    passed-answers _ _ (sym told.before.before.survey-surveyed.ensures ∙ told.surveyed-in-Passed-1.given.1) c.before.before.show.ensures
 
-pub witness-spec : {M : Type 1} → statement M
-witness-spec =
+pub witness_spec : {M : Type 1} → statement M
+witness_spec =
     tie.close
     (tie.spec (λ c κs. search rules) (λ c. search rules) (λ c. search rules) show-requires returns (λ c. search rules) returns-2)

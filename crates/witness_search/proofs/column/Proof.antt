@@ -6,13 +6,13 @@ use borrow.Author.Rules.{rules}
 use Rattle.witness_search.proofs.column.Statement.{statement}
 use Rattle.witness_search.proofs.column.Tie as tie
 
-returns : tie.Need-returns
+returns : tie.Need-returns-then-l-wide
 returns c =
     let args = c.before.before.args in rw (lt-ltb args.l args.first (omega (arith, c.before.wide.ensures))) refl
 
-returns-2 : tie.Need-returns-2
+returns-2 : tie.Need-returns
 returns-2 c =
     let args = c.before.before.args in rw (le-ltb args.l args.first (omega (arith, c.before.wide.ensures))) refl
 
-pub column-spec : {M : Type 1} → statement M
-column-spec = tie.close (tie.spec (λ c κs. search rules) (λ c. search rules) returns returns-2)
+pub column_spec : {M : Type 1} → statement M
+column_spec = tie.close (tie.spec (λ c κs. search rules) (λ c. search rules) returns returns-2)

@@ -5,32 +5,32 @@ use borrow.Author.Rules.{rules}
 use Rattle.witness_search.proofs.display.Statement.{statement}
 use Rattle.witness_search.proofs.display.Tie as tie
 
-returns : tie.Need-returns
+returns : tie.Need-returns-then-c-lo
 returns c =
     let two = c.before.before.before.before in
     let first = two.before.before.before.before in
-    shows_left (omega arith) first.cell.ensures two.cell2.ensures c.before.before.cell3.ensures c.cell4.ensures
+    shows_left (omega arith) first.cell-x.ensures two.cell.ensures c.before.before.cell-then-c-lo.ensures c.cell-then-c-lo-2.ensures
 
 -- The cell itself is made first
-abbrev first : (c : tie.After-cell5) → tie.After-cell
+abbrev first : (c : tie.After-cell-last) → tie.After-cell-x
 first c = c.before.before.before.before.before
 
-returns-2 : tie.Need-returns-2
+returns-2 : tie.Need-returns-then-c-hi
 returns-2 c =
     let last = c.before.before.before.before in
-    shows-row (omega arith) (omega arith) last.before.prior.ensures (first last).cell.ensures c.cell6.ensures
-    last.cell5.ensures last.cell5.ensures
+    shows-row (omega arith) (omega arith) last.before.prior.ensures (first last).cell-x.ensures c.cell-then-c-hi.ensures
+    last.cell-last.ensures last.cell-last.ensures
 
-returns-3 : tie.Need-returns-3
+returns-3 : tie.Need-returns
 returns-3 c =
     let low = c.before.before.before in
     let last = low.before.before.before.before.before in
-    shows-right (omega (arith, last.before.before.before.if1.false)) (omega arith) low.before.prior2.ensures
-    c.before.prior3.ensures last.before.prior.ensures (first last).cell.ensures low.cell7.ensures c.cell8.ensures
-    last.cell5.ensures
+    shows-right (omega (arith, last.before.before.before.if-c-lo.false)) (omega arith) low.before.prior-2.ensures
+    c.before.prior-3.ensures last.before.prior.ensures (first last).cell-x.ensures low.cell-2.ensures c.cell-3.ensures
+    last.cell-last.ensures
 
-pub display-spec : {M : Type 1} → statement M
-display-spec =
+pub display_spec : {M : Type 1} → statement M
+display_spec =
     tie.close
     (tie.spec (λ c κs. search rules) (λ c. search rules) (λ c. search rules) (λ c. search rules) (λ c. search rules)
     (λ c κs. search rules) (λ c. search rules) (λ c. search rules) (λ c κs. search rules) (λ c. search rules) (λ c. search rules)

@@ -19,30 +19,30 @@ use Rattle.witness_search.proofs.find.Statement.{statement}
 use Rattle.witness_search.proofs.find.Tie as tie
 
 -- The rows, and what the first pass finds in them
-module _ (d : tie.After-wide2) where
+module _ (d : tie.After-wide-t) where
   abbrev o : Outline
   o = let args = d.before.before.before.before.args in outline args.s args.w.now
 
   abbrev lo : List ℕ
-  lo = d.before.before.pass.result.lo
+  lo = d.before.before.pass-k.result.lo
 
   abbrev en : List ℕ
-  en = d.before.before.pass.result.en
+  en = d.before.before.pass-k.result.en
 
   abbrev hi : List ℕ
-  hi = d.before.before.pass.result.hi
+  hi = d.before.before.pass-k.result.hi
 
   abbrev b : ℕ
-  b = d.before.wide.result
+  b = d.before.wide-b.result
 
   abbrev t : ℕ
-  t = d.wide2.result
+  t = d.wide-t.result
 
   simple : Simple o
   simple = d.before.before.before.before.pre
 
   known : Passed o lo en hi b t
-  known = passed-at o lo en hi _ _ b t d.before.wide.ensures.0 d.wide2.ensures.0 d.before.before.pass.ensures
+  known = passed-at o lo en hi _ _ b t d.before.wide-b.ensures.0 d.wide-t.ensures.0 d.before.before.pass-k.ensures
 
   -- So they are rows of the chart, and the arrays are their ends
   high : t ≤ side
@@ -65,7 +65,7 @@ module _ (d : tie.After-wide2) where
 search-requires : tie.Need-search-requires
 search-requires c κs = let d = c.before.before.before.before.before in (omega arith, high d)
 
-returns : tie.Need-returns
+returns : tie.Need-returns-then-b-t
 returns c = found c.before.before.before.before.before.before c.search.result c.search.ensures
 
 single-requires : tie.Need-single-requires
@@ -74,7 +74,7 @@ single-requires c κs =
     let l = (ends d).rows.below in
     (omega (arith, high d), (ends d).rows.ranges (b d) (omega arith) l, (runs d (b d) (omega arith) l).begun)
 
-returns-2 : tie.Need-returns-2
+returns-2 : tie.Need-returns
 returns-2 c =
     let d = c.before.before.before.before.before.before in
     let s = c.single.result in

@@ -5,13 +5,13 @@ use borrow.Author.Rules.{rules}
 use Rattle.witness_search.proofs.gap.Statement.{statement}
 use Rattle.witness_search.proofs.gap.Tie as tie
 
-returns : tie.Need-returns
+returns : tie.Need-returns-then-w-lt255
 returns c =
-    let args = c.before.before.args in gap-sums args.c args.x c.before.wide.result c.before.wide.ensures.0 (omega arith)
+    let args = c.before.before.args in gap-sums args.c args.x c.before.wide-w.result c.before.wide-w.ensures.0 (omega arith)
 
-returns-2 : tie.Need-returns-2
+returns-2 : tie.Need-returns
 returns-2 c =
-    let args = c.before.before.args in gap-past args.c args.x (omega (arith, c.before.wide.ensures))
+    let args = c.before.before.args in gap-past args.c args.x (omega (arith, c.before.wide-w.ensures))
 
-pub gap-spec : {M : Type 1} → statement M
-gap-spec = tie.close (tie.spec (λ c κs. search rules) (λ c. search rules) returns returns-2)
+pub gap_spec : {M : Type 1} → statement M
+gap_spec = tie.close (tie.spec (λ c κs. search rules) (λ c. search rules) returns returns-2)

@@ -8,5 +8,5 @@ use Rattle.border.proofs.direction.above.Tie as tie
 returns : tie.Need-returns
 returns c = simp (to_z-of_z w16 c.args.d c.ranges.d) (positive-machine c.args.d)
 
-pub above-spec : {M : Type 1} → statement M
-above-spec = tie.close (tie.spec returns)
+pub above_spec : {M : Type 1} → statement M
+above_spec = tie.close (tie.spec returns)

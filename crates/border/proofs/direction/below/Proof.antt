@@ -8,5 +8,5 @@ use Rattle.border.proofs.direction.below.Tie as tie
 returns : tie.Need-returns
 returns c = simp (to_z-of_z w16 c.args.d c.ranges.d) (below-machine c.args.d)
 
-pub below-spec : {M : Type 1} → statement M
-below-spec = tie.close (tie.spec returns)
+pub below_spec : {M : Type 1} → statement M
+below_spec = tie.close (tie.spec returns)

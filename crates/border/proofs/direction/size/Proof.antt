@@ -12,21 +12,21 @@ use Rattle.border.proofs.Directions.{negated, kept}
 use Rattle.border.proofs.direction.size.Statement.{statement}
 use Rattle.border.proofs.direction.size.Tie as tie
 
-taken : (c : tie.Then1) → lt_z c.before.args.d (pos 0) ≡ true
-taken c = simp (to_z-of_z w16 c.before.args.d c.before.ranges.d) at c.if1.true
+taken : (c : tie.Then-d-lt0) → lt_z c.before.args.d (pos 0) ≡ true
+taken c = simp (to_z-of_z w16 c.before.args.d c.before.ranges.d) at c.if-d-lt0.true
 
-left : (c : tie.Else1) → lt_z c.before.args.d (pos 0) ≡ false
-left c = simp (to_z-of_z w16 c.before.args.d c.before.ranges.d) at c.if1.false
+left : (c : tie.Else-d-lt0) → lt_z c.before.args.d (pos 0) ≡ false
+left c = simp (to_z-of_z w16 c.before.args.d c.before.ranges.d) at c.if-d-lt0.false
 
-cast-result : tie.Need-overflow-cast-result
+cast-result : tie.Need-overflow_cast-result
 cast-result c = simp (to_z-of_z w16 c.before.args.d c.before.ranges.d) (sfits_widen tt c.before.ranges.d)
 
-sub-result : tie.Need-overflow-sub-result
+sub-result : tie.Need-overflow_sub-result
 sub-result c =
     simp (to_z-of_z w16 c.before.args.d c.before.ranges.d, to_z-of_z w64 c.before.args.d (sfits_widen tt c.before.ranges.d))
     (negated _ c.before.ranges.d (taken c)).sfits
 
-cast-result-2 : tie.Need-overflow-cast-result-2
+cast-result-2 : tie.Need-overflow_cast-result-then-d-lt0
 cast-result-2 c =
     let n = negated _ c.before.ranges.d (taken c) in
     simp (
@@ -36,10 +36,10 @@ cast-result-2 c =
     )
     (n.nonneg, n.fits)
 
-cast-result-3 : tie.Need-overflow-cast-result-3
+cast-result-3 : tie.Need-overflow_cast-result-else-d-lt0
 cast-result-3 c = simp (to_z-of_z w16 c.before.args.d c.before.ranges.d) (kept _ c.before.ranges.d (left c))
 
-returns : tie.Need-returns
+returns : tie.Need-returns-then-d-lt0
 returns c =
     let n = negated _ c.before.ranges.d (taken c) in
     simp (
@@ -49,9 +49,9 @@ returns c =
     )
     (n.size, omega (arith, n.size, size-16 _ c.before.ranges.d))
 
-returns-2 : tie.Need-returns-2
+returns-2 : tie.Need-returns-else-d-lt0
 returns-2 c = simp (to_z-of_z w16 c.before.args.d c.before.ranges.d) (refl, size-16 _ c.before.ranges.d)
 
-pub size-spec : {M : Type 1} → statement M
-size-spec =
+pub size_spec : {M : Type 1} → statement M
+size_spec =
     tie.close (tie.spec cast-result sub-result cast-result-2 cast-result-3 returns returns-2)

@@ -13,47 +13,47 @@ use Rattle.border.proofs.writer.step.Statement.{statement}
 use Rattle.border.proofs.writer.step.Tie as tie
 
 -- The quadrant, as the code finds it
-quadrant-is : (c : tie.After-quadrant) → let a = c.before.before.args in c.quadrant.result ≡ quadrant_of a.dx a.dy
+quadrant-is : (c : tie.After-quadrant-k) → let a = c.before.before.args in c.quadrant-k.result ≡ quadrant_of a.dx a.dy
 quadrant-is c =
-    let s = c.before.before in simp (to_z-of_z w16 _ s.ranges.dx, to_z-of_z w16 _ s.ranges.dy) at c.quadrant.ensures
+    let s = c.before.before in simp (to_z-of_z w16 _ s.ranges.dx, to_z-of_z w16 _ s.ranges.dy) at c.quadrant-k.ensures
 
-begin-pieces-requires : tie.Need-begin-pieces-requires
+begin-pieces-requires : tie.Need-begin_pieces-first-requires
 begin-pieces-requires c κs = let k = quadrant-is c.before in let s = c.before.before.before in
     (omega (arith, k, s.requires), omega (arith, k, s.requires))
 
-add-run : tie.Need-overflow-add-run
+add-run : tie.Need-overflow_add-k
 add-run c = let q = c.before.before.before.before.before in omega (arith, quadrant-is q, q.before.before.requires)
 
 -- The edge's two counts, and where it starts
 run_is :
-    (c : tie.After-run) →
+    (c : tie.After-run-run) →
     let a = c.before.before.before.before.before.before.before.args in
-    c.run.result ≡ run_in (quadrant_of a.dx a.dy) a.dx a.dy
+    c.run-run.result ≡ run_in (quadrant_of a.dx a.dy) a.dx a.dy
 run_is c =
     let q = c.before.before.before.before.before in
     let s = q.before.before in
-    simp (to_z-of_z w16 _ s.ranges.dx, to_z-of_z w16 _ s.ranges.dy) at c.run.ensures.0
+    simp (to_z-of_z w16 _ s.ranges.dx, to_z-of_z w16 _ s.ranges.dy) at c.run-run.ensures.0
     ∙ ap (λ (k : ℕ). run_in k s.args.dx s.args.dy) (quadrant-is q)
 
 rise-is :
-    (c : tie.After-run2) →
+    (c : tie.After-run-rise) →
     let a = c.before.before.before.before.before.before.before.before.args in
-    c.run2.result ≡ rise_in (quadrant_of a.dx a.dy) a.dx a.dy
+    c.run-rise.result ≡ rise_in (quadrant_of a.dx a.dy) a.dx a.dy
 unfolding rise_in
 rise-is c =
     let q = c.before.before.before.before.before.before in
     let s = q.before.before in
-    simp (to_z-of_z w16 _ s.ranges.dx, to_z-of_z w16 _ s.ranges.dy) at c.run2.ensures.0
-    ∙ ap (λ (k : ℕ). run_in k s.args.dx s.args.dy) (add-one q.quadrant.result ∙ ap suc (quadrant-is q))
+    simp (to_z-of_z w16 _ s.ranges.dx, to_z-of_z w16 _ s.ranges.dy) at c.run-rise.ensures.0
+    ∙ ap (λ (k : ℕ). run_in k s.args.dx s.args.dy) (add-one q.quadrant-k.result ∙ ap suc (quadrant-is q))
 
-write-edge-requires : tie.Need-write-edge-requires
+write-edge-requires : tie.Need-write_edge-end-requires
 write-edge-requires c κs =
     let two = c.before in
     let q = two.before.before.before.before.before.before in
     let s = q.before.before in
     let x = s.args.dx in
     let y = s.args.dy in
-    let begun = two.before.before.before.before.begin-pieces.ensures in
+    let begun = two.before.before.before.before.begin_pieces-first.ensures in
     let k = quadrant-is q in (
       omega (arith, k, s.requires, begun.0, begun.1.sized, run_is two.before, rise-is two, run-and-rise (quadrant_of x y) x y),
       omega (arith, rise-is two, (quadrant-step x y s.requires.0.1).rises),
@@ -67,13 +67,13 @@ returns c =
     let s = q.before.before in
     let x = s.args.dx in
     let y = s.args.dy in
-    let begun = two.before.before.before.before.begin-pieces.ensures in
+    let begun = two.before.before.before.before.begin_pieces-first.ensures in
     let k = quadrant-is q in (
-      omega (arith, k, begun.0, edge.write-edge.ensures.0, run_is two.before, rise-is two, run-and-rise (quadrant_of x y) x y),
+      omega (arith, k, begun.0, edge.write_edge-end.ensures.0, run_is two.before, rise-is two, run-and-rise (quadrant_of x y) x y),
       (
         k,
         step-wrote s.args.writer.piece x y k (run_is two.before) (rise-is two) begun.1 begun.0
-            edge.write-edge.ensures.1,
+            edge.write_edge-end.ensures.1,
       ),
     )
 

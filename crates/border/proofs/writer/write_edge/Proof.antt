@@ -17,15 +17,15 @@ use Rattle.border.proofs.Writing.{wrote_none, earlier-next, later-next}
 use Rattle.border.proofs.writer.write_edge.Statement.{statement}
 use Rattle.border.proofs.writer.write_edge.Tie as tie
 
-abbrev invariant-loop : tie.invariant-loop
+abbrev invariant-loop : tie.invariant-loop-i
 invariant-loop letters₀ at k run rise earlier later end rem₀ i₀ letters rem i =
     (i ≤ run + rise) × (rem ≡ i * rise % (run + rise))
     × Wrote letters₀ at (spell (frame_of k) (listed (counted_letter rise (run + rise)) i)) letters
 
-abbrev decreases-loop : tie.decreases-loop
+abbrev decreases-loop : tie.decreases-loop-i
 decreases-loop letters₀ at k run rise earlier later end rem₀ i₀ letters rem i = run + rise - i
 
-loop-holds : tie.Need-loop-init invariant-loop decreases-loop
+loop-holds : tie.Need-loop-i-init invariant-loop decreases-loop
 unfolding listed spell
 loop-holds c =
     let s = c.before.before.before in (
@@ -34,64 +34,64 @@ loop-holds c =
       wrote_none s.args.letters.now s.args.at,
     )
 
-slice-write-letters : tie.Need-slice-write-letters invariant-loop decreases-loop
-slice-write-letters c = omega (arith, c.before.before.loop.invariant.2.sized)
+slice-write-letters : tie.Need-bounds-letters-at invariant-loop decreases-loop
+slice-write-letters c = omega (arith, c.before.before.loop-i.invariant.2.sized)
 
-next-requires : tie.Need-next-requires invariant-loop decreases-loop
+next-requires : tie.Need-next-rem-requires invariant-loop decreases-loop
 next-requires c κs =
     let s = c.before.before.before.before.before.before in (
-      omega (arith, mod-lt (c.before.before.loop.i * s.args.rise) (let p : 0 < s.args.run + s.args.rise = omega arith in p)),
+      omega (arith, mod-lt (c.before.before.loop-i.i * s.args.rise) (let p : 0 < s.args.run + s.args.rise = omega arith in p)),
       omega arith,
     )
 
 -- One more letter, by the test of the remainder
 longer :
-    (c : tie.Joined1 invariant-loop decreases-loop) →
+    (c : tie.Joined-rem-run invariant-loop decreases-loop) →
     let l = c.before.before in
     let a = l.before.before.before.before.args in
-    Wrote a.letters.now a.at (spell (frame_of a.k) (listed (counted_letter a.rise (a.run + a.rise)) (suc l.loop.i)))
-    (set l.loop.letters (a.at + l.loop.i) c.if1.letter)
+    Wrote a.letters.now a.at (spell (frame_of a.k) (listed (counted_letter a.rise (a.run + a.rise)) (suc l.loop-i.i)))
+    (set l.loop-i.letters (a.at + l.loop-i.i) c.if-rem-run.letter)
 longer c =
     let l = c.before.before in
     let s = l.before.before.before.before in
     let a = s.args in
-    let h = l.loop.invariant.2 in
-    let rem = l.loop.invariant.1 in
+    let h = l.loop-i.invariant.2 in
+    let rem = l.loop-i.invariant.1 in
     ⊎_elim
     (λ w.
-    rw (w.1, l.before.before.earlier.ensures)
-    (earlier-next a.k a.run a.rise l.loop.i s.requires.1 a.at h (omega arith) (omega (arith, w.0.taken))))
+    rw (w.1, l.before.before.earlier-earlier.ensures)
+    (earlier-next a.k a.run a.rise l.loop-i.i s.requires.1 a.at h (omega arith) (omega (arith, w.0.taken))))
     (λ w.
-    rw (w.1, l.before.later.ensures)
-    (later-next a.k a.run a.rise l.loop.i s.requires.1 a.at h (omega arith) (omega (arith, w.0.left))))
-    c.if1.branch
+    rw (w.1, l.before.later-later.ensures)
+    (later-next a.k a.run a.rise l.loop-i.i s.requires.1 a.at h (omega arith) (omega (arith, w.0.left))))
+    c.if-rem-run.branch
 
-loop-again : tie.Need-loop-preserved invariant-loop decreases-loop
+loop-again : tie.Need-loop-i-preserved invariant-loop decreases-loop
 loop-again c =
     let j = c.before in
     let l = j.before.before in
     let s = l.before.before.before.before in
     let a = s.args in
-    let i = l.loop.i in (
+    let i = l.loop-i.i in (
       omega arith,
-      c.next.ensures ∙ ap (λ (r : ℕ). (r + a.rise) % (a.run + a.rise)) l.loop.invariant.1 ∙ multiple-next i a.rise (a.run + a.rise)
+      c.next-rem.ensures ∙ ap (λ (r : ℕ). (r + a.rise) % (a.run + a.rise)) l.loop-i.invariant.1 ∙ multiple-next i a.rise (a.run + a.rise)
           ∙ ap (λ (m : ℕ). m * a.rise % (a.run + a.rise)) (sym (add-one i)),
       rw (add-one i) (longer j),
     )
 
-same_length : tie.Need-same-length invariant-loop decreases-loop
-same_length c = c.before.loop.invariant.2.sized
+same_length : tie.Need-shape_of-letters invariant-loop decreases-loop
+same_length c = c.before.loop-i.invariant.2.sized
 
 returns : tie.Need-returns invariant-loop decreases-loop
 unfolding letters
 returns c =
     let l = c.before in
     let a = l.before.before.before.before.args in
-    let e : l.loop.i ≡ a.run + a.rise = omega (arith, l.loop.invariant.0) in
-    (omega arith, rw e at l.loop.invariant.2)
+    let e : l.loop-i.i ≡ a.run + a.rise = omega (arith, l.loop-i.invariant.0) in
+    (omega arith, rw e at l.loop-i.invariant.2)
 
-pub write-edge-spec : {M : Type 1} → statement M
-write-edge-spec =
+pub write_edge_spec : {M : Type 1} → statement M
+write_edge_spec =
     tie.close
     (tie.spec invariant-loop decreases-loop (λ c κs. search rules) (λ c κs. search rules) (λ c. omega arith) loop-holds (λ c. omega arith)
     slice-write-letters next-requires (λ c. omega arith) (λ c. omega arith) loop-again (λ c. omega arith) same_length returns)

@@ -11,24 +11,24 @@ use Rattle.calls.proofs.written.of_piece.Tie as tie
 shown : {p q : Piece} (x : Point) {f : Fields} → p ≡ q → f ≡ piece_fields q x → f ≡ piece_fields p x
 shown x e w = w ∙ ap (λ (r : Piece). piece_fields r x) (sym e)
 
-returns : tie.Need-returns
+returns : tie.Need-returns-in-Move
 unfolding piece_fields
-returns c = shown _ c.before.enum_told.given.1 c.accepted.ensures
+returns c = shown _ c.before.enum_told-1.given.1 c.accepted.ensures
 
-returns-2 : tie.Need-returns-2
+returns-2 : tie.Need-returns-in-Line
 unfolding piece_fields
-returns-2 c = shown _ c.before.enum-told2.given.1 c.accepted2.ensures
+returns-2 c = shown _ c.before.enum_told-in-Line-1.given.1 c.accepted-in-Line.ensures
 
-returns-3 : tie.Need-returns-3
+returns-3 : tie.Need-returns-in-Close
 unfolding piece_fields
-returns-3 c = shown _ c.before.enum-told3.given.1 c.worded.ensures
+returns-3 c = shown _ c.before.enum_told-in-Close-1.given.1 c.worded.ensures
 
-returns-4 : tie.Need-returns-4
+returns-4 : tie.Need-returns-in-None
 unfolding piece_fields
-returns-4 c = shown _ c.before.enum-told4.given.1 c.worded2.ensures
+returns-4 c = shown _ c.before.enum_told-in-None-1.given.1 c.worded-in-None.ensures
 
-pub of-piece-spec : {M : Type 1} → statement M
-of-piece-spec =
+pub of_piece_spec : {M : Type 1} → statement M
+of_piece_spec =
     tie.close
     (tie.spec (λ c. search rules) (λ c κs. search rules) (λ c. search rules) (λ c κs. search rules) (λ c. search rules)
     (λ c κs. search rules) (λ c. search rules) (λ c κs. search rules) returns returns-2 returns-3 returns-4)

@@ -30,12 +30,12 @@ no-piece (Taken n a) h = refl
 no-piece (Same n a) h = refl
 no-piece (Refused f) h = refl
 
-returns : tie.Need-returns
+returns : tie.Need-returns-in-Drawn
 unfolding piece_in
-returns c = rw c.before.r.given.1
+returns c = rw c.before.r-1.given.1
 
-returns-2 : tie.Need-returns-2
-returns-2 c = no-piece _ c.match.keys2
+returns-2 : tie.Need-returns-in_default
+returns-2 c = no-piece _ c.in-Drawn.keys2
 
-pub piece-in-spec : {M : Type 1} → statement M
-piece-in-spec = tie.close (tie.spec (λ c. search rules) returns returns-2)
+pub piece_in_spec : {M : Type 1} → statement M
+piece_in_spec = tie.close (tie.spec (λ c. search rules) returns returns-2)

@@ -13,20 +13,20 @@ use Rattle.calls.proofs.written.put_word.Tie as tie
 shown : {r s : Reply} {f : Fields} {l : List ℕ} → l ≡ numbers_of f → f ≡ reply_fields s → r ≡ s → l ≡ numbers_of (reply_fields r)
 shown p q e = p ∙ ap numbers_of (q ∙ ap reply_fields (sym e))
 
-returns : tie.Need-returns
+returns : tie.Need-returns-in-Done
 unfolding reply_fields
-returns c = shown c.put.ensures c.before.before.worded.ensures c.before.before.before.enum_told.given.1
+returns c = shown c.put.ensures c.before.before.worded.ensures c.before.before.before.enum_told-1.given.1
 
-returns-2 : tie.Need-returns-2
+returns-2 : tie.Need-returns-in-Inside
 unfolding reply_fields
-returns-2 c = shown c.put2.ensures c.before.before.worded2.ensures c.before.before.before.enum-told2.given.1
+returns-2 c = shown c.put-in-Inside.ensures c.before.before.worded-in-Inside.ensures c.before.before.before.enum_told-in-Inside-1.given.1
 
-returns-3 : tie.Need-returns-3
+returns-3 : tie.Need-returns-in-Outside
 unfolding reply_fields
-returns-3 c = shown c.put3.ensures c.before.before.worded3.ensures c.before.before.before.enum-told3.given.1
+returns-3 c = shown c.put-in-Outside.ensures c.before.before.worded-in-Outside.ensures c.before.before.before.enum_told-in-Outside-1.given.1
 
-pub put-word-spec : {M : Type 1} → statement M
-put-word-spec =
+pub put_word_spec : {M : Type 1} → statement M
+put_word_spec =
     tie.close
     (tie.spec (λ c. search rules) (λ c κs. search rules) (λ c κs. search rules) (λ c. search rules) (λ c κs. search rules)
     (λ c κs. search rules) (λ c. search rules) (λ c κs. search rules) (λ c κs. search rules) (λ c κs. search rules) returns returns-2

@@ -5,17 +5,17 @@ use borrow.Author.Rules.{rules}
 use Rattle.chart.proofs.reply.of_position.Statement.{statement}
 use Rattle.chart.proofs.reply.of_position.Tie as tie
 
-returns : tie.Need-returns
+returns : tie.Need-returns-in-Inside
 returns c = cc
 
-returns-2 : tie.Need-returns-2
+returns-2 : tie.Need-returns-in-Outside
 returns-2 c = cc
 
-returns-3 : tie.Need-returns-3
-returns-3 c = c.of-refusal.ensures ∙ sym (ap position_fields c.before.before.p.given.1)
+returns-3 : tie.Need-returns-in-Refused
+returns-3 c = c.of_refusal.ensures ∙ sym (ap position_fields c.before.before.p-1.given.1)
 
-pub of-position-spec : {M : Type 1} → statement M
-of-position-spec =
+pub of_position_spec : {M : Type 1} → statement M
+of_position_spec =
     tie.close
     (tie.spec (λ c. search rules) (λ c κs. search rules) (λ c. search rules) (λ c κs. search rules) (λ c. search rules)
     (λ c κs. search rules) returns returns-2 returns-3)

@@ -10,32 +10,32 @@ use Rattle.chart.proofs.ReplyLaws.{reply_after-room, reply_after-short}
 use Rattle.chart.proofs.reply.write.Statement.{statement}
 use Rattle.chart.proofs.reply.write.Tie as tie
 
-returns : tie.Need-returns
-returns c = (sym (lt-leb reply_width _ c.if1.true), sym (reply_after-short _ _ c.if1.true))
+returns : tie.Need-returns-then-list-lt-NUMBERS
+returns c = (sym (lt-leb reply_width _ c.if-list-lt-NUMBERS.true), sym (reply_after-short _ _ c.if-list-lt-NUMBERS.true))
 
-slice-write-list-2 : tie.Need-slice-write-list-2
+slice-write-list-2 : tie.Need-bounds-list-1
 slice-write-list-2 c = simp length-set (omega arith)
 
-slice-write-list-3 : tie.Need-slice-write-list-3
+slice-write-list-3 : tie.Need-bounds-list-2
 slice-write-list-3 c = simp length-set (omega arith)
 
-slice-write-list-4 : tie.Need-slice-write-list-4
+slice-write-list-4 : tie.Need-bounds-list-3
 slice-write-list-4 c = simp length-set (omega arith)
 
-slice-write-list-5 : tie.Need-slice-write-list-5
+slice-write-list-5 : tie.Need-bounds-list-4
 slice-write-list-5 c = simp length-set (omega arith)
 
-slice-write-list-6 : tie.Need-slice-write-list-6
+slice-write-list-6 : tie.Need-bounds-list-5
 slice-write-list-6 c = simp length-set (omega arith)
 
-slice-write-list-7 : tie.Need-slice-write-list-7
+slice-write-list-7 : tie.Need-bounds-list-6
 slice-write-list-7 c = simp length-set (omega arith)
 
-returns-2 : tie.Need-returns-2
+returns-2 : tie.Need-returns
 unfolding numbers_of
 returns-2 c =
     let a = c.before.args in
-    let room = c.if1.false in (
+    let room = c.if-list-lt-NUMBERS.false in (
       sym (le-leb reply_width _ room),
       sets-eq (numbers_of a.f) a.list.now 0 (omega arith) ∙ sym (reply_after-room a.f a.list.now room),
     )

@@ -14,8 +14,8 @@ returns c =
     rw c.higher.ensures
     (high_one (met_to at) s.args.end.now at.row _ (omega (arith, s.requires.1, s.requires.2)) (to-here at) (to-else at))
 
-pub corner-end-spec : {M : Type 1} → statement M
-corner-end-spec =
+pub corner_end_spec : {M : Type 1} → statement M
+corner_end_spec =
     tie.close
     (tie.spec (λ c. search rules) (λ c. search rules) (λ c. search rules) (λ c. search rules) (λ c κs. search rules) (λ c. search rules)
     returns)

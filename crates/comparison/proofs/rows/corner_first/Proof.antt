@@ -15,7 +15,7 @@ returns c =
     (low-one (met_from at) s.args.first.now at.row at.col (omega (arith, s.requires.1, s.requires.2.long)) s.requires.2 (met-here at)
     (met-else at))
 
-pub corner-first-spec : {M : Type 1} → statement M
-corner-first-spec =
+pub corner_first_spec : {M : Type 1} → statement M
+corner_first_spec =
     tie.close
     (tie.spec (λ c. search rules) (λ c. search rules) (λ c. search rules) (λ c κs. search rules) (λ c. search rules) returns)

@@ -21,33 +21,33 @@ use Rattle.comparison.proofs.Sweeps.{Sweeping, sweeping-start, sweeping-next, sw
 use Rattle.comparison.proofs.rows.sweep.Statement.{statement}
 use Rattle.comparison.proofs.rows.sweep.Tie as tie
 
-abbrev invariant-loop : tie.invariant-loop
+abbrev invariant-loop : tie.invariant-loop-i
 invariant-loop edges first₀ end₀ at₀ i₀ first end at i = Sweeping edges at₀ i at first end
 
-abbrev decreases-loop : tie.decreases-loop
+abbrev decreases-loop : tie.decreases-loop-i
 decreases-loop edges first₀ end₀ at₀ i₀ first end at i = length edges - i
 
 -- The edge of an iteration, and where it leads
 abbrev Iteration : Type 0
-Iteration = tie.In-loop invariant-loop decreases-loop
+Iteration = tie.In-loop-i invariant-loop decreases-loop
 
 abbrev list : Iteration → List ℤ
 list t = t.before.before.args.edges.now
 
 abbrev edge : Iteration → Edge
-edge t = edge_at (list t) t.before.loop.i
+edge t = edge_at (list t) t.before.loop-i.i
 
-abbrev stands : (t : Iteration) → Standing (list t) t.before.loop.i t.before.loop.at
-stands t = t.before.loop.inv.stands
+abbrev stands : (t : Iteration) → Standing (list t) t.before.loop-i.i t.before.loop-i.at
+stands t = t.before.loop-i.inv.stands
 
 abbrev next : Iteration → Corner
-next t = next_corner (list t) t.before.loop.i (started t.before.loop.at)
+next t = next_corner (list t) t.before.loop-i.i (started t.before.loop-i.at)
 
-fits-x : (c : tie.After-further-arg invariant-loop decreases-loop) → SFits w16 (edge c.before.before.before.before.before.before).0
-fits-x c = record { sfits = c.further-arg.given }
+fits-x : (c : tie.After-further-arg-1 invariant-loop decreases-loop) → SFits w16 (edge c.before.before.before.before.before.before).0
+fits-x c = record { sfits = c.further-arg-1.given }
 
-fits-y : (c : tie.After-further-arg2 invariant-loop decreases-loop) → SFits w16 (edge c.before.before.before.before.before.before.before).1
-fits-y c = record { sfits = c.further-arg2.given }
+fits-y : (c : tie.After-further-arg-in-loop-i-1 invariant-loop decreases-loop) → SFits w16 (edge c.before.before.before.before.before.before.before).1
+fits-y c = record { sfits = c.further-arg-in-loop-i-1.given }
 
 further-is : (c : tie.After-further invariant-loop decreases-loop)
     → c.further.result ≡ next c.before.before.before.before.before.before.before.before
@@ -55,29 +55,29 @@ further-is c =
     let s = c.before.before.before in
     simp (to_z-of_z w16 _ (fits-x c.before.before), to_z-of_z w16 _ (fits-y c.before), s.start.ensures) at c.further.ensures
 
-cell-is : (c : tie.After-cell invariant-loop decreases-loop)
-    → c.cell.result ≡ cell_at (next c.before.before.before.before.before.before.before.before.before)
-cell-is c = c.cell.ensures ∙ ap cell_at (further-is c.before)
+cell-is : (c : tie.After-cell-next invariant-loop decreases-loop)
+    → c.cell-next.result ≡ cell_at (next c.before.before.before.before.before.before.before.before.before)
+cell-is c = c.cell-next.ensures ∙ ap cell_at (further-is c.before)
 
 -- Both ends of the edge are on the chart
 ends :
-    (c : tie.After-cell invariant-loop decreases-loop) →
-    let at = c.before.before.before.before.before.before.before.before.before.before.loop.at in
-    (at.col < side) × (at.row < side) × (c.cell.result.col < side) × (c.cell.result.row < side)
+    (c : tie.After-cell-next invariant-loop decreases-loop) →
+    let at = c.before.before.before.before.before.before.before.before.before.before.loop-i.at in
+    (at.col < side) × (at.row < side) × (c.cell-next.result.col < side) × (c.cell-next.result.row < side)
 ends c =
     let s = stands c.before.before.before.before.before.before.before.before.before in
     let a = standing_here s in
     let b = standing_here (standing-next s (omega arith)) in
     (a.0, a.1, rw (cell-is c) b.0, rw (cell-is c) b.1)
 
-loop-holds : tie.Need-loop-init invariant-loop decreases-loop
+loop-holds : tie.Need-loop-i-init invariant-loop decreases-loop
 loop-holds c = sweeping-start _ _ _ _ c.requires.0 c.requires.1 c.requires.2
 
-corner-first-requires : tie.Need-corner-first-requires invariant-loop decreases-loop
-corner-first-requires c κs = let w = c.before.before.loop.invariant in let a = standing_here w.stands in (a.0, a.1, w.below)
+corner-first-requires : tie.Need-corner_first-requires invariant-loop decreases-loop
+corner-first-requires c κs = let w = c.before.before.loop-i.invariant in let a = standing_here w.stands in (a.0, a.1, w.below)
 
-corner-end-requires : tie.Need-corner-end-requires invariant-loop decreases-loop
-corner-end-requires c κs = let w = c.before.before.before.before.loop.invariant in let a = standing_here w.stands in
+corner-end-requires : tie.Need-corner_end-requires invariant-loop decreases-loop
+corner-end-requires c κs = let w = c.before.before.before.before.loop-i.invariant in let a = standing_here w.stands in
     (a.0, a.1, w.wide)
 
 further-requires : tie.Need-further-requires invariant-loop decreases-loop
@@ -88,7 +88,7 @@ further-requires c κs =
     let t = s.before.before.before.before.before in
     simp (to_z-of_z w16 _ x, to_z-of_z w16 _ y, s.start.ensures) (on-chart-fits _ (standing_on (stands t)) x y)
 
-cell-requires : tie.Need-cell-requires invariant-loop decreases-loop
+cell-requires : tie.Need-cell-next-requires invariant-loop decreases-loop
 cell-requires c κs = rw (further-is c) (next-on (stands c.before.before.before.before.before.before.before.before) (omega arith))
 
 rise-requires : tie.Need-rise-requires invariant-loop decreases-loop
@@ -96,16 +96,16 @@ rise-requires c κs =
     let f = c.before in
     let met = f.before.before.before.before.before.before.before in
     let e = ends f in
-    (e.0, e.1, e.2, e.3, lowered-below met.before.before.before.loop.invariant.below met.corner-first.ensures)
+    (e.0, e.1, e.2, e.3, lowered-below met.before.before.before.loop-i.invariant.below met.corner_first.ensures)
 
 fall-requires : tie.Need-fall-requires invariant-loop decreases-loop
 fall-requires c κs =
     let f = c.before.before.before in
     let reached = f.before.before.before.before.before in
     let e = ends f in
-    (e.0, e.1, e.2, e.3, reached.corner-end.ensures.long ∙ reached.before.before.before.before.before.loop.invariant.wide)
+    (e.0, e.1, e.2, e.3, reached.corner_end.ensures.long ∙ reached.before.before.before.before.before.loop-i.invariant.wide)
 
-loop-again : tie.Need-loop-preserved invariant-loop decreases-loop
+loop-again : tie.Need-loop-i-preserved invariant-loop decreases-loop
 loop-again c =
     let risen = c.before.before in
     let f = risen.before.before in
@@ -114,23 +114,23 @@ loop-again c =
     let t = met.before.before in
     let r = rw (cell-is f) at risen.rise.ensures in
     let l = rw (cell-is f) at c.fall.ensures in
-    rw (cell-is f) (sweeping-next t.before.loop.invariant (omega arith) met.corner-first.ensures reached.corner-end.ensures r l)
+    rw (cell-is f) (sweeping-next t.before.loop-i.invariant (omega arith) met.corner_first.ensures reached.corner_end.ensures r l)
 
-corner-first-requires-2 : tie.Need-corner-first-requires-2 invariant-loop decreases-loop
-corner-first-requires-2 c κs = let w = c.before.before.loop.invariant in let a = standing_here w.stands in (a.0, a.1, w.below)
+corner-first-requires-2 : tie.Need-corner_first-requires-2 invariant-loop decreases-loop
+corner-first-requires-2 c κs = let w = c.before.before.loop-i.invariant in let a = standing_here w.stands in (a.0, a.1, w.below)
 
-corner-end-requires-2 : tie.Need-corner-end-requires-2 invariant-loop decreases-loop
-corner-end-requires-2 c κs = let w = c.before.before.before.before.loop.invariant in let a = standing_here w.stands in
+corner-end-requires-2 : tie.Need-corner_end-requires-2 invariant-loop decreases-loop
+corner-end-requires-2 c κs = let w = c.before.before.before.before.loop-i.invariant in let a = standing_here w.stands in
     (a.0, a.1, w.wide)
 
 returns : tie.Need-returns invariant-loop decreases-loop
 returns c =
     let met = c.before.before in
     let left = met.before.before in
-    sweeping-end left.before.loop.invariant (omega (arith, left.loop-test.false)) met.corner-first2.ensures c.corner-end2.ensures
+    sweeping-end left.before.loop-i.invariant (omega (arith, left.loop-i-test.false)) met.corner_first-2.ensures c.corner_end-2.ensures
 
-pub sweep-spec : {M : Type 1} → statement M
-sweep-spec =
+pub sweep_spec : {M : Type 1} → statement M
+sweep_spec =
     tie.close
     (tie.spec invariant-loop decreases-loop loop-holds (λ c. omega arith) corner-first-requires corner-end-requires (λ c κs. search rules)
     (λ c. omega arith) (λ c. omega arith) (λ c. omega arith) (λ c. omega arith) (λ c. omega arith) further-requires cell-requires

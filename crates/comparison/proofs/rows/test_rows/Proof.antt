@@ -9,7 +9,7 @@ returns : tie.Need-returns
 returns c =
     let two = c.before.before.before.before.before in
     let one = two.before.before.before in
-    c.compare-rows.ensures ∙ compared-swept _ _ _ _ _ _ one.sweep.ensures two.sweep2.ensures
+    c.compare_rows.ensures ∙ compared-swept _ _ _ _ _ _ one.sweep.ensures two.sweep-2.ensures
 
-pub test-rows-spec : {M : Type 1} → statement M
-test-rows-spec = tie.close (tie.spec (λ c κs. search rules) (λ c κs. search rules) (λ c κs. search rules) returns)
+pub test_rows_spec : {M : Type 1} → statement M
+test_rows_spec = tie.close (tie.spec (λ c κs. search rules) (λ c κs. search rules) (λ c κs. search rules) returns)

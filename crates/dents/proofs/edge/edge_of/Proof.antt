@@ -8,8 +8,8 @@ use Rattle.dents.proofs.FrameSizes.{Read, frame-units, pair_read}
 use Rattle.dents.proofs.edge.edge_of.Statement.{statement}
 use Rattle.dents.proofs.edge.edge_of.Tie as tie
 
-table-read : (c : tie.After-pair-at) → Read (frame_of c.before.args.k) c.pair-at.result
-table-read c = pair_read _ c.pair-at.ensures
+table-read : (c : tie.After-pair_at-p) → Read (frame_of c.before.args.k) c.pair_at-p.result
+table-read c = pair_read _ c.pair_at-p.ensures
 
 steps-requires : tie.Need-steps-requires
 steps-requires c κs =
@@ -33,9 +33,9 @@ returns c =
     let s = c.before.before.before in
     record {
       dx = to_z-of_z w16 s.steps.result (record { sfits = s.steps.type-inv }) ∙ simp (r.earlier-cols, r.later-cols) at s.steps.ensures;
-      dy = to_z-of_z w16 c.steps2.result (record { sfits = c.steps2.type-inv })
-          ∙ simp (r.earlier-rows, r.later_rows) at c.steps2.ensures;
+      dy = to_z-of_z w16 c.steps-2.result (record { sfits = c.steps-2.type-inv })
+          ∙ simp (r.earlier-rows, r.later_rows) at c.steps-2.ensures;
     }
 
-pub edge-of-spec : {M : Type 1} → statement M
-edge-of-spec = tie.close (tie.spec (λ c κs. search rules) steps-requires steps-requires-2 returns)
+pub edge_of_spec : {M : Type 1} → statement M
+edge_of_spec = tie.close (tie.spec (λ c κs. search rules) steps-requires steps-requires-2 returns)

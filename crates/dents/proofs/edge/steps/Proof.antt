@@ -47,13 +47,13 @@ module _ (s : tie.Start) where
   later-read : to_z w16 (of_z w16 s.args.later) ≡ s.args.later
   later-read = to_z-of_z w16 s.args.later s.fits.later
 
-mul-result : tie.Need-overflow-mul-result
+mul-result : tie.Need-overflow_mul-result
 mul-result c = rw (run-read c, earlier-read c) (run_fits c)
 
-mul-result-2 : tie.Need-overflow-mul-result-2
+mul-result-2 : tie.Need-overflow_mul-result-2
 mul-result-2 c = rw (rise-read c, later-read c) (rise-fits c)
 
-add-result : tie.Need-overflow-add-result
+add-result : tie.Need-overflow_add-result
 add-result c =
     rw (
       run-read c,
@@ -69,5 +69,5 @@ returns c =
     rw (run-read c, earlier-read c, rise-read c, later-read c, to_z-of_z w16 (run c) (run_fits c), to_z-of_z w16 (rise c) (rise-fits c))
     (to_z-of_z w16 (run c +ℤ rise c) (sum_fits c))
 
-pub steps-spec : {M : Type 1} → statement M
-steps-spec = tie.close (tie.spec (λ c. search rules) mul-result (λ c. search rules) mul-result-2 add-result returns)
+pub steps_spec : {M : Type 1} → statement M
+steps_spec = tie.close (tie.spec (λ c. search rules) mul-result (λ c. search rules) mul-result-2 add-result returns)

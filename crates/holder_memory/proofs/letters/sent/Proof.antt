@@ -19,10 +19,10 @@ letters-window letters p count n e = rw e (sym (take-take (min count longest) lo
 returns : tie.Need-returns
 returns c =
     rw add-sub_cancel_left
-    (letters-window c.before.before.before.args.letters.now c.before.before.before.args.party _ _ c.before.held.ensures)
+    (letters-window c.before.before.before.args.letters.now c.before.before.before.args.party _ _ c.before.held-n.ensures)
 
-pub sent-spec : {M : Type 1} → statement M
-sent-spec =
+pub sent_spec : {M : Type 1} → statement M
+sent_spec =
     tie.close
     (tie.spec (λ c κs. search rules) (λ c. search rules) (λ c. search rules) (λ c. search rules) (λ c. search rules)
     (λ c. search rules) returns)

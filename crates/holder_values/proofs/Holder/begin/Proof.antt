@@ -4,7 +4,7 @@ use Rattle.holder_values.proofs.Holder.begin.Statement.{statement}
 use Rattle.holder_values.proofs.Holder.begin.Tie as tie
 
 returns : tie.Need-returns
-returns c = c.begin.ensures _ _ _
+returns c = c.begin-reply.ensures _ _ _
 
-pub begin-spec : {M : Type 1} → statement M
-begin-spec = tie.close (tie.spec (λ c κs. search rules) returns)
+pub begin_spec : {M : Type 1} → statement M
+begin_spec = tie.close (tie.spec (λ c κs. search rules) returns)

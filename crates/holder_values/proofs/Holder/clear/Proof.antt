@@ -4,7 +4,7 @@ use Rattle.holder_values.proofs.Holder.clear.Statement.{statement}
 use Rattle.holder_values.proofs.Holder.clear.Tie as tie
 
 returns : tie.Need-returns
-returns c = c.clear.ensures _ _ _
+returns c = c.clear-reply.ensures _ _ _
 
 pub clear_spec : {M : Type 1} → statement M
 clear_spec = tie.close (tie.spec (λ c κs. search rules) returns)

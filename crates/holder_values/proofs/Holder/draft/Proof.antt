@@ -5,7 +5,7 @@ use Rattle.holder_values.proofs.Holder.draft.Statement.{statement}
 use Rattle.holder_values.proofs.Holder.draft.Tie as tie
 
 returns : tie.Need-returns
-returns c = (c.draft.ensures _ _ _, refl)
+returns c = (c.draft-drafting.ensures _ _ _, refl)
 
-pub draft-spec : {M : Type 1} → statement M
-draft-spec = tie.close (tie.spec (λ c κs. search rules) returns)
+pub draft_spec : {M : Type 1} → statement M
+draft_spec = tie.close (tie.spec (λ c κs. search rules) returns)

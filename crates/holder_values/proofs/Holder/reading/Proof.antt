@@ -4,7 +4,7 @@ use Rattle.holder_values.proofs.Holder.reading.Statement.{statement}
 use Rattle.holder_values.proofs.Holder.reading.Tie as tie
 
 returns : tie.Need-returns
-returns c = c.reading.ensures _ _
+returns c = c.reading-reply.ensures _ _
 
-pub reading-spec : {M : Type 1} → statement M
-reading-spec = tie.close (tie.spec (λ c κs. search rules) returns)
+pub reading_spec : {M : Type 1} → statement M
+reading_spec = tie.close (tie.spec (λ c κs. search rules) returns)

@@ -12,22 +12,22 @@ use Rattle.polygon.proofs.round.clockwise.Statement.{statement}
 use Rattle.polygon.proofs.round.clockwise.Tie as tie
 
 -- The machine keeps the values of the two products
-there-read : (c : tie.After-times) → to_z w64 (of_z w64 c.times.result) ≡ c.before.args.dy *ℤ c.before.args.ex
+there-read : (c : tie.After-times-there) → to_z w64 (of_z w64 c.times-there.result) ≡ c.before.args.dy *ℤ c.before.args.ex
 there-read c =
-    read_back c.times.result c.times.type-inv
-    ∙ simp (to_z-of_z w16 _ c.before.ranges.dy, to_z-of_z w16 _ c.before.ranges.ex) at c.times.ensures.0
+    read_back c.times-there.result c.times-there.type-inv
+    ∙ simp (to_z-of_z w16 _ c.before.ranges.dy, to_z-of_z w16 _ c.before.ranges.ex) at c.times-there.ensures.0
 
-back_read : (c : tie.After-times2) → to_z w64 (of_z w64 c.times2.result) ≡ c.before.before.args.dx *ℤ c.before.before.args.ey
+back_read : (c : tie.After-times-back) → to_z w64 (of_z w64 c.times-back.result) ≡ c.before.before.args.dx *ℤ c.before.before.args.ey
 back_read c =
     let s = c.before.before in
-    read_back c.times2.result c.times2.type-inv
-    ∙ simp (to_z-of_z w16 _ s.ranges.dx, to_z-of_z w16 _ s.ranges.ey) at c.times2.ensures.0
+    read_back c.times-back.result c.times-back.type-inv
+    ∙ simp (to_z-of_z w16 _ s.ranges.dx, to_z-of_z w16 _ s.ranges.ey) at c.times-back.ensures.0
 
 difference-requires : tie.Need-difference-requires
 difference-requires c κs =
-    let size = size-difference c.before.times.result c.times2.result in
-    simp (read_back c.before.times.result c.before.times.type-inv, read_back c.times2.result c.times2.type-inv)
-    (fits-size w64 _ (omega (arith, size, c.before.times.ensures.1, c.times2.ensures.1)))
+    let size = size-difference c.before.times-there.result c.times-back.result in
+    simp (read_back c.before.times-there.result c.before.times-there.type-inv, read_back c.times-back.result c.times-back.type-inv)
+    (fits-size w64 _ (omega (arith, size, c.before.times-there.ensures.1, c.times-back.ensures.1)))
 
 returns : tie.Need-returns
 unfolding cross
@@ -36,5 +36,5 @@ returns c =
     ∙ ap positive (read_back c.before.difference.result c.before.difference.type-inv
     ∙ simp (there-read c.before.before.before, back_read c.before.before) at c.before.difference.ensures)
 
-pub clockwise-spec : {M : Type 1} → statement M
-clockwise-spec = tie.close (tie.spec (λ c κs. search rules) (λ c κs. search rules) difference-requires (λ c κs. search rules) returns)
+pub clockwise_spec : {M : Type 1} → statement M
+clockwise_spec = tie.close (tie.spec (λ c κs. search rules) (λ c κs. search rules) difference-requires (λ c κs. search rules) returns)

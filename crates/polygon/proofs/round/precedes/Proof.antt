@@ -9,28 +9,28 @@ use Rattle.polygon.proofs.round.precedes.Statement.{statement}
 use Rattle.polygon.proofs.round.precedes.Tie as tie
 
 -- The half of the first direction, and that of the second where it is tested
-first-is : (c : tie.After-first-half) → c.first-half.result ≡ first_half c.before.args.dx c.before.args.dy
-first-is c = simp (to_z-of_z w16 _ c.before.ranges.dx, to_z-of_z w16 _ c.before.ranges.dy) at c.first-half.ensures
+first-is : (c : tie.After-first_half) → c.first_half.result ≡ first_half c.before.args.dx c.before.args.dy
+first-is c = simp (to_z-of_z w16 _ c.before.ranges.dx, to_z-of_z w16 _ c.before.ranges.dy) at c.first_half.ensures
 
-second_is : (c : tie.After-first-half2)
-    → c.first-half2.result ≡ first_half c.before.before.before.args.ex c.before.before.before.args.ey
+second_is : (c : tie.After-first_half-then-first_half)
+    → c.first_half-then-first_half.result ≡ first_half c.before.before.before.args.ex c.before.before.before.args.ey
 second_is c =
     let s = c.before.before.before in
-    simp (to_z-of_z w16 _ s.ranges.ex, to_z-of_z w16 _ s.ranges.ey) at c.first-half2.ensures
+    simp (to_z-of_z w16 _ s.ranges.ex, to_z-of_z w16 _ s.ranges.ey) at c.first_half-then-first_half.ensures
 
-second-is-2 : (c : tie.After-first-half3)
-    → c.first-half3.result ≡ first_half c.before.before.before.args.ex c.before.before.before.args.ey
+second-is-2 : (c : tie.After-first_half-else-first_half)
+    → c.first_half-else-first_half.result ≡ first_half c.before.before.before.args.ex c.before.before.before.args.ey
 second-is-2 c =
     let s = c.before.before.before in
-    simp (to_z-of_z w16 _ s.ranges.ex, to_z-of_z w16 _ s.ranges.ey) at c.first-half3.ensures
+    simp (to_z-of_z w16 _ s.ranges.ex, to_z-of_z w16 _ s.ranges.ey) at c.first_half-else-first_half.ensures
 
-returns : tie.Need-returns
+returns : tie.Need-returns-then-not-first_half
 unfolding precedes
 returns c =
     let one = c.before.before in
-    c.if2.true ∙ simp (sym (first-is one.before) ∙ one.if1.true, sym (second_is c.before) ∙ not-true _ c.if2.true)
+    c.if-not-first_half.true ∙ simp (sym (first-is one.before) ∙ one.if-first_half.true, sym (second_is c.before) ∙ not-true _ c.if-not-first_half.true)
 
-returns-2 : tie.Need-returns-2
+returns-2 : tie.Need-returns-else-not-first_half
 unfolding precedes
 returns-2 c =
     let two = c.before in
@@ -42,9 +42,9 @@ returns-2 c =
       to_z-of_z w16 _ s.ranges.ex,
       to_z-of_z w16 _ s.ranges.ey,
     ) at c.clockwise.ensures
-    ∙ simp (sym (first-is one.before) ∙ one.if1.true, sym (second_is two.before) ∙ not-false _ two.if2.false)
+    ∙ simp (sym (first-is one.before) ∙ one.if-first_half.true, sym (second_is two.before) ∙ not-false _ two.if-not-first_half.false)
 
-returns-3 : tie.Need-returns-3
+returns-3 : tie.Need-returns-then-not-first_half-2
 unfolding precedes
 returns-3 c =
     let two = c.before in
@@ -55,17 +55,17 @@ returns-3 c =
       to_z-of_z w16 _ s.ranges.dy,
       to_z-of_z w16 _ s.ranges.ex,
       to_z-of_z w16 _ s.ranges.ey,
-    ) at c.clockwise2.ensures
-    ∙ simp (sym (first-is one.before) ∙ one.if1.false, sym (second-is-2 two.before) ∙ not-true _ two.if3.true)
+    ) at c.clockwise-then-not-first_half-2.ensures
+    ∙ simp (sym (first-is one.before) ∙ one.if-first_half.false, sym (second-is-2 two.before) ∙ not-true _ two.if-not-first_half-2.true)
 
-returns-4 : tie.Need-returns-4
+returns-4 : tie.Need-returns-else-not-first_half-2
 unfolding precedes
 returns-4 c =
     let one = c.before.before in
-    c.if3.false ∙ simp (sym (first-is one.before) ∙ one.if1.false, sym (second-is-2 c.before) ∙ not-false _ c.if3.false)
+    c.if-not-first_half-2.false ∙ simp (sym (first-is one.before) ∙ one.if-first_half.false, sym (second-is-2 c.before) ∙ not-false _ c.if-not-first_half-2.false)
 
-pub precedes-spec : {M : Type 1} → statement M
-precedes-spec =
+pub precedes_spec : {M : Type 1} → statement M
+precedes_spec =
     tie.close
     (tie.spec (λ c κs. search rules) (λ c κs. search rules) (λ c κs. search rules) (λ c κs. search rules) (λ c κs. search rules) returns
     returns-2 returns-3 returns-4)

@@ -7,5 +7,5 @@ use Rattle.polygon.proofs.signed.at_most.Tie as tie
 returns : tie.Need-returns
 returns c = simp (to_z-of_z w64 c.args.a c.ranges.a, to_z-of_z w64 c.args.b c.ranges.b)
 
-pub at-most-spec : {M : Type 1} → statement M
-at-most-spec = tie.close (tie.spec returns)
+pub at_most_spec : {M : Type 1} → statement M
+at_most_spec = tie.close (tie.spec returns)

@@ -9,18 +9,18 @@ use Rattle.polygon.proofs.signed.higher.Statement.{statement}
 use Rattle.polygon.proofs.signed.higher.Tie as tie
 
 -- The test, at the numbers themselves
-tested : (c : tie.After-at-most) → le_z c.before.args.a c.before.args.b ≡ c.at_most.result
+tested : (c : tie.After-at_most) → le_z c.before.args.a c.before.args.b ≡ c.at_most.result
 tested c =
     sym (simp (
       to_z-of_z w64 c.before.args.a c.before.ranges.a,
       to_z-of_z w64 c.before.args.b c.before.ranges.b,
     ) at c.at_most.ensures)
 
-returns : tie.Need-returns
-returns c = to_z-of_z w64 c.before.before.args.b c.before.before.ranges.b ∙ sym (max-by _ _ (tested c.before ∙ c.if1.true))
+returns : tie.Need-returns-then-at_most
+returns c = to_z-of_z w64 c.before.before.args.b c.before.before.ranges.b ∙ sym (max-by _ _ (tested c.before ∙ c.if-at_most.true))
 
-returns-2 : tie.Need-returns-2
-returns-2 c = to_z-of_z w64 c.before.before.args.a c.before.before.ranges.a ∙ sym (max-by _ _ (tested c.before ∙ c.if1.false))
+returns-2 : tie.Need-returns-else-at_most
+returns-2 c = to_z-of_z w64 c.before.before.args.a c.before.before.ranges.a ∙ sym (max-by _ _ (tested c.before ∙ c.if-at_most.false))
 
-pub higher-spec : {M : Type 1} → statement M
-higher-spec = tie.close (tie.spec (λ c κs. search rules) returns returns-2)
+pub higher_spec : {M : Type 1} → statement M
+higher_spec = tie.close (tie.spec (λ c κs. search rules) returns returns-2)

@@ -6,5 +6,5 @@ use Rattle.polygon.proofs.signed.is_zero.Tie as tie
 returns : tie.Need-returns
 returns c = nil-machine c.args.a c.ranges.a
 
-pub is-zero-spec : {M : Type 1} → statement M
-is-zero-spec = tie.close (tie.spec returns)
+pub is_zero_spec : {M : Type 1} → statement M
+is_zero_spec = tie.close (tie.spec returns)

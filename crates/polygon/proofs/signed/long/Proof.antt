@@ -5,11 +5,11 @@ use mir.Facts.{sfits_widen}
 use Rattle.polygon.proofs.signed.long.Statement.{statement}
 use Rattle.polygon.proofs.signed.long.Tie as tie
 
-cast-result : tie.Need-overflow-cast-result
+cast-result : tie.Need-overflow_cast-result
 cast-result c = simp (to_z-of_z w32 c.args.n c.ranges.n) (sfits_widen tt c.ranges.n)
 
 returns : tie.Need-returns
 returns c = simp (to_z-of_z w32 c.args.n c.ranges.n, to_z-of_z w64 c.args.n (sfits_widen tt c.ranges.n))
 
-pub long-spec : {M : Type 1} → statement M
-long-spec = tie.close (tie.spec cast-result returns)
+pub long_spec : {M : Type 1} → statement M
+long_spec = tie.close (tie.spec cast-result returns)

@@ -8,5 +8,5 @@ use Rattle.polygon.proofs.signed.positive.Tie as tie
 returns : tie.Need-returns
 returns c = simp (to_z-of_z w64 c.args.a c.ranges.a) (positive-machine c.args.a)
 
-pub positive-spec : {M : Type 1} → statement M
-positive-spec = tie.close (tie.spec returns)
+pub positive_spec : {M : Type 1} → statement M
+positive_spec = tie.close (tie.spec returns)

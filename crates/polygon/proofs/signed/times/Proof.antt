@@ -11,12 +11,12 @@ use Rattle.polygon.proofs.Integers.{widened}
 use Rattle.polygon.proofs.signed.times.Statement.{statement}
 use Rattle.polygon.proofs.signed.times.Tie as tie
 
-module _ (c : tie.After-widen2) where
+module _ (c : tie.After-widen-2) where
   reads : (to_z w64 (of_z w64 c.before.widen.result) ≡ c.before.before.args.a)
-      × (to_z w64 (of_z w64 c.widen2.result) ≡ c.before.before.args.b)
+      × (to_z w64 (of_z w64 c.widen-2.result) ≡ c.before.before.args.b)
   reads = (
     widened c.before.before.ranges.a c.before.widen.type-inv c.before.widen.ensures,
-    widened c.before.before.ranges.b c.widen2.type-inv c.widen2.ensures,
+    widened c.before.before.ranges.b c.widen-2.type-inv c.widen-2.ensures,
   )
 
   size : nat_abs (c.before.before.args.a *ℤ c.before.before.args.b) ≤ 32768 * 32768
@@ -32,5 +32,5 @@ returns c =
     let e = read_back c.product.result c.product.type-inv ∙ simp (r.0, r.1) at c.product.ensures in
     (e, rw e (omega (arith, size c.before)))
 
-pub times-spec : {M : Type 1} → statement M
-times-spec = tie.close (tie.spec (λ c κs. search rules) (λ c κs. search rules) product-requires returns)
+pub times_spec : {M : Type 1} → statement M
+times_spec = tie.close (tie.spec (λ c κs. search rules) (λ c κs. search rules) product-requires returns)

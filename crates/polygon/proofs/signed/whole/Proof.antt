@@ -6,11 +6,11 @@ use mir.ValLaws.{to_z-of_z}
 use Rattle.polygon.proofs.signed.whole.Statement.{statement}
 use Rattle.polygon.proofs.signed.whole.Tie as tie
 
-cast-result : tie.Need-overflow-cast-result
+cast-result : tie.Need-overflow_cast-result
 cast-result c = search rules
 
 returns : tie.Need-returns
 returns c = to_z-of_z w64 (pos c.args.n) (cast-result c)
 
-pub whole-spec : {M : Type 1} → statement M
-whole-spec = tie.close (tie.spec cast-result returns)
+pub whole_spec : {M : Type 1} → statement M
+whole_spec = tie.close (tie.spec cast-result returns)

@@ -5,7 +5,7 @@ use mir.Facts.{sfits_widen}
 use Rattle.polygon.proofs.signed.widen.Statement.{statement}
 use Rattle.polygon.proofs.signed.widen.Tie as tie
 
-cast-result : tie.Need-overflow-cast-result
+cast-result : tie.Need-overflow_cast-result
 cast-result c = simp (to_z-of_z w16 c.args.x c.ranges.x) (sfits_widen tt c.ranges.x)
 
 returns : tie.Need-returns

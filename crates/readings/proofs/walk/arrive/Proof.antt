@@ -9,19 +9,19 @@ use Rattle.readings.proofs.walk.arrive.Statement.{statement}
 use Rattle.readings.proofs.walk.arrive.Tie as tie
 
 -- The machine keeps the values of the corner cell's numbers
-col-read : (c : tie.After-struct-told) → to_z w32 (of_z w32 c.before.args.at.col) ≡ c.before.args.at.col
-col-read c = to_z-of_z w32 _ (record { sfits = c.struct_told.given.0.1 })
+col-read : (c : tie.After-struct_told-1) → to_z w32 (of_z w32 c.before.args.at.col) ≡ c.before.args.at.col
+col-read c = to_z-of_z w32 _ (record { sfits = c.struct_told-1.given.0.1 })
 
-row_read : (c : tie.After-struct-told2)
+row_read : (c : tie.After-struct_told-2-1)
     → to_z w32 (of_z w32 c.before.before.before.args.at.row) ≡ c.before.before.before.args.at.row
-row_read c = to_z-of_z w32 _ (record { sfits = c.struct-told2.given.1.0.1 })
+row_read c = to_z-of_z w32 _ (record { sfits = c.struct_told-2-1.given.1.0.1 })
 
 returns : tie.Need-returns
 unfolding arrived
 returns c =
     let rows = c.before in
     let cols = rows.before.before in
-    simp (cols.meet.ensures, rows.meet2.ensures, col-read cols.before, row_read rows.before)
+    simp (cols.meet.ensures, rows.meet-2.ensures, col-read cols.before, row_read rows.before)
 
-pub arrive-spec : {M : Type 1} → statement M
-arrive-spec = tie.close (tie.spec (λ c κs. search rules) (λ c κs. search rules) returns)
+pub arrive_spec : {M : Type 1} → statement M
+arrive_spec = tie.close (tie.spec (λ c κs. search rules) (λ c κs. search rules) returns)

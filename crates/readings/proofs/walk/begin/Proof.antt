@@ -11,11 +11,11 @@ returns : tie.Need-returns
 unfolding begun
 returns c =
     let one = c.before in
-    let k = one.before.start.result in
+    let k = one.before.start-at.result in
     simp (
-      to_z-of_z w32 k.col (record { sfits = one.struct_told.given.0.1 }),
-      to_z-of_z w32 k.row (record { sfits = c.struct-told2.given.1.0.1 }),
-    ) (rw one.before.start.ensures refl)
+      to_z-of_z w32 k.col (record { sfits = one.struct_told-1.given.0.1 }),
+      to_z-of_z w32 k.row (record { sfits = c.struct_told-2-1.given.1.0.1 }),
+    ) (rw one.before.start-at.ensures refl)
 
-pub begin-spec : {M : Type 1} → statement M
-begin-spec = tie.close (tie.spec (λ c κs. search rules) returns)
+pub begin_spec : {M : Type 1} → statement M
+begin_spec = tie.close (tie.spec (λ c κs. search rules) returns)

@@ -12,7 +12,7 @@ low-is : (c : tie.After-lower) → let s = c.before.before.args in c.lower.resul
 low-is c =
     let s = c.before.before in
     simp (
-      to_z-of_z w32 s.args.m.least (record { sfits = c.before.struct_told.given.0.1 }),
+      to_z-of_z w32 s.args.m.least (record { sfits = c.before.struct_told-1.given.0.1 }),
       to_z-of_z w32 s.args.n s.ranges.n,
     ) at c.lower.ensures
 
@@ -20,7 +20,7 @@ high_is : (c : tie.After-higher) → let s = c.before.before.before.before.args 
 high_is c =
     let s = c.before.before.before.before in
     simp (
-      to_z-of_z w32 s.args.m.most (record { sfits = c.before.struct-told2.given.1.0.1 }),
+      to_z-of_z w32 s.args.m.most (record { sfits = c.before.struct_told-2-1.given.1.0.1 }),
       to_z-of_z w32 s.args.n s.ranges.n,
     ) at c.higher.ensures
 
@@ -33,5 +33,5 @@ returns c =
       to_z-of_z w32 c.higher.result (record { sfits = c.higher.type-inv }),
     ) (simp (low-is low, high_is c))
 
-pub meet-spec : {M : Type 1} → statement M
-meet-spec = tie.close (tie.spec (λ c κs. search rules) (λ c κs. search rules) returns)
+pub meet_spec : {M : Type 1} → statement M
+meet_spec = tie.close (tie.spec (λ c κs. search rules) (λ c κs. search rules) returns)

@@ -10,19 +10,19 @@ use Rattle.readings.proofs.walk.side.Statement.{statement}
 use Rattle.readings.proofs.walk.side.Tie as tie
 
 -- The machine keeps the values of the corner cell's numbers
-col-read : (c : tie.After-struct-told)
+col-read : (c : tie.After-struct_told-1)
     → to_z w32 (of_z w32 c.before.before.before.args.at.col) ≡ c.before.before.before.args.at.col
-col-read c = to_z-of_z w32 _ (record { sfits = c.struct_told.given.0.1 })
+col-read c = to_z-of_z w32 _ (record { sfits = c.struct_told-1.given.0.1 })
 
-row_read : (c : tie.After-struct-told2) →
+row_read : (c : tie.After-struct_told-2-1) →
     let k = c.before.before.before.before.before.before.before.args.at in
     to_z w32 (of_z w32 k.row) ≡ k.row
-row_read c = to_z-of_z w32 _ (record { sfits = c.struct-told2.given.1.0.1 })
+row_read c = to_z-of_z w32 _ (record { sfits = c.struct_told-2-1.given.1.0.1 })
 
-int-to-float-across-2 : tie.Need-int-to-float-across-2
+int-to-float-across-2 : tie.Need-int_to_float-across-2
 int-to-float-across-2 c = let s = c.before.before.before in simp (col-read c) (reached-float s.args.at.col s.requires.0)
 
-int-to-float-up-2 : tie.Need-int-to-float-up-2
+int-to-float-up-2 : tie.Need-int_to_float-up-2
 int-to-float-up-2 c =
     let s = c.before.before.before.before.before.before.before in
     simp (row_read c) (reached-float s.args.at.row s.requires.1)
@@ -35,7 +35,7 @@ returns c =
     let s = col.before.before.before in
     simp (to_z-of_z w16 s.args.dx s.ranges.dx, to_z-of_z w16 s.args.dy s.ranges.dy, col-read col, row_read row)
 
-pub side-spec : {M : Type 1} → statement M
-side-spec =
+pub side_spec : {M : Type 1} → statement M
+side_spec =
     tie.close
     (tie.spec (λ c. search rules) int-to-float-across-2 (λ c. search rules) int-to-float-up-2 returns)

@@ -18,35 +18,35 @@ use Rattle.survey.proofs.checks.first_above.Tie as tie
 abbrev above : List ℕ → ℕ → Bool
 above w i = ltb 3 (get_or w i 0)
 
-abbrev invariant-loop : tie.invariant-loop
+abbrev invariant-loop : tie.invariant-loop-i
 invariant-loop w i₀ i = (i ≤ length w) × (first (above w) i ≡ i)
 
-abbrev decreases-loop : tie.decreases-loop
+abbrev decreases-loop : tie.decreases-loop-i
 decreases-loop w i₀ i = length w - i
 
-loop-holds : tie.Need-loop-init invariant-loop decreases-loop
+loop-holds : tie.Need-loop-i-init invariant-loop decreases-loop
 loop-holds c = (omega arith, first-zero (above c.args.w.now))
 
-returns : tie.Need-returns invariant-loop decreases-loop
+returns : tie.Need-returns-then-w-i-gt3 invariant-loop decreases-loop
 unfolding letter_place
 returns c =
-    sym (first-stop (above c.before.before.before.before.args.w.now) _ _ c.before.before.before.loop.invariant.1
-    (lt-ltb _ _ c.if1.true) c.before.before.loop-test.true)
+    sym (first-stop (above c.before.before.before.before.args.w.now) _ _ c.before.before.before.loop-i.invariant.1
+    (lt-ltb _ _ c.if-w-i-gt3.true) c.before.before.loop-i-test.true)
 
-loop-again : tie.Need-loop-preserved invariant-loop decreases-loop
+loop-again : tie.Need-loop-i-preserved invariant-loop decreases-loop
 loop-again c = (
   omega arith,
-  first_step (above c.before.before.before.before.args.w.now) _ c.before.before.before.loop.invariant.1
-      (le-ltb _ _ c.if1.false),
+  first_step (above c.before.before.before.before.args.w.now) _ c.before.before.before.loop-i.invariant.1
+      (le-ltb _ _ c.if-w-i-gt3.false),
 )
 
-returns-2 : tie.Need-returns-2 invariant-loop decreases-loop
+returns-2 : tie.Need-returns invariant-loop decreases-loop
 unfolding letter_place
 returns-2 c =
-    let e : c.before.loop.i ≡ length c.before.before.args.w.now = omega arith in
-    sym c.before.loop.invariant.1 ∙ ap (first (above c.before.before.args.w.now)) e
+    let e : c.before.loop-i.i ≡ length c.before.before.args.w.now = omega arith in
+    sym c.before.loop-i.invariant.1 ∙ ap (first (above c.before.before.args.w.now)) e
 
-pub first-above-spec : {M : Type 1} → statement M
-first-above-spec =
+pub first_above_spec : {M : Type 1} → statement M
+first_above_spec =
     tie.close
     (tie.spec invariant-loop decreases-loop loop-holds (λ c. search rules) returns (λ c. search rules) (λ c. search rules) loop-again returns-2)
