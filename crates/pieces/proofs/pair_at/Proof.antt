@@ -20,11 +20,11 @@ row f =
       earlier_cols = f.earlier-cols;
       earlier_rows = f.earlier-rows;
       later_cols = f.later-cols;
-      later_rows = f.later-rows;
+      later_rows = f.later_rows;
     }
 
 row_of : (f : Frame) → PairOf f (row f)
-row_of f = record { earlier = refl; later = refl; earlier-cols = refl; earlier-rows = refl; later-cols = refl; later-rows = refl }
+row_of f = record { earlier = refl; later = refl; earlier-cols = refl; earlier-rows = refl; later-cols = refl; later_rows = refl }
 
 -- A table of four rows
 table_at :

@@ -4,7 +4,6 @@ use mathlib.Core.Path.{sym, ◌∙◌}
 use Rattle.chart.specs.Outline.{outline}
 use Rattle.lattice.specs.Refusals.{Stays}
 use Rattle.lattice.proofs.Staying.{start-on-chart}
-use Rattle.survey_walk.specs.parts.Walks.{RestOf}
 use Rattle.survey_walk.proofs.CheckLaws.{counted-short}
 use Rattle.survey_walk.proofs.WalkLaws.{out-start}
 use Rattle.survey.proofs.SurveyLaws.{none_found, walk-leaves, walk-unclosed}
