@@ -32,8 +32,8 @@ returns c =
     let r = table-read c.before.before.before.before.before.before in
     let s = c.before.before.before in
     record {
-      dx = to_z-of_z w16 s.steps.result (record { sfits = s.steps.type-inv }) ∙ simp (r.earlier-cols, r.later-cols) at s.steps.ensures;
-      dy = to_z-of_z w16 c.steps-2.result (record { sfits = c.steps-2.type-inv })
+      dx = to_z-of_z w16 s.steps.result (record { sfits = s.steps.type_inv }) ∙ simp (r.earlier-cols, r.later-cols) at s.steps.ensures;
+      dy = to_z-of_z w16 c.steps-2.result (record { sfits = c.steps-2.type_inv })
           ∙ simp (r.earlier-rows, r.later_rows) at c.steps-2.ensures;
     }
 
