@@ -18,8 +18,8 @@ use Rattle.edge_walk.proofs.Sizes.{on-chart-fits}
 use Rattle.comparison.proofs.Steps.{next_corner, Standing, standing_on, standing_here, next-on, standing-next}
 use Rattle.comparison.proofs.Lists.{lowered-below}
 use Rattle.comparison.proofs.Sweeps.{Sweeping, sweeping-start, sweeping-next, sweeping-end}
-use Rattle.comparison.proofs.rows.sweep.Statement.{statement}
-use Rattle.comparison.proofs.rows.sweep.Tie as tie
+use Rattle.comparison.proofs.row_walk.sweep.Statement.{statement}
+use Rattle.comparison.proofs.row_walk.sweep.Tie as tie
 
 abbrev invariant-loop : tie.invariant-loop-i
 invariant-loop edges first₀ end₀ at₀ i₀ first end at i = Sweeping edges at₀ i at first end
@@ -38,7 +38,7 @@ abbrev edge : Iteration → Edge
 edge t = edge_at (list t) t.before.loop-i.i
 
 abbrev stands : (t : Iteration) → Standing (list t) t.before.loop-i.i t.before.loop-i.at
-stands t = t.before.loop-i.inv.stands
+stands t = t.before.loop-i.invariant.stands
 
 abbrev next : Iteration → Corner
 next t = next_corner (list t) t.before.loop-i.i (started t.before.loop-i.at)

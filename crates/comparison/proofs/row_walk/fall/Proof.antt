@@ -7,8 +7,8 @@ use borrow.Author.Rules.{rules}
 use Rattle.chart.specs.Limits.{side}
 use Rattle.comparison.specs.parts.Rows.{end_of, end_at, in_rows, Raised}
 use Rattle.comparison.proofs.Lists.{high-start, high-next, high_end}
-use Rattle.comparison.proofs.rows.fall.Statement.{statement}
-use Rattle.comparison.proofs.rows.fall.Tie as tie
+use Rattle.comparison.proofs.row_walk.fall.Statement.{statement}
+use Rattle.comparison.proofs.row_walk.fall.Tie as tie
 
 abbrev invariant-loop : tie.invariant-loop-row
 invariant-loop p q end₀ row₀ end row =

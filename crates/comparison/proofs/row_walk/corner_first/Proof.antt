@@ -4,8 +4,8 @@ use borrow.Author.Rules.{rules}
 use Rattle.comparison.specs.parts.Rows.{met_from}
 use Rattle.comparison.proofs.Lists.{low-one}
 use Rattle.comparison.proofs.Sweeps.{met-here, met-else}
-use Rattle.comparison.proofs.rows.corner_first.Statement.{statement}
-use Rattle.comparison.proofs.rows.corner_first.Tie as tie
+use Rattle.comparison.proofs.row_walk.corner_first.Statement.{statement}
+use Rattle.comparison.proofs.row_walk.corner_first.Tie as tie
 
 returns : tie.Need-returns
 returns c =

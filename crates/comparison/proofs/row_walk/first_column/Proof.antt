@@ -4,8 +4,8 @@ use native.Mathlib.Omega.{arith}
 use Rattle.comparison.specs.parts.Rows.{first_of}
 use Rattle.comparison.proofs.Columns.{first-level, first_inner, first-outer, quotient-small}
 use borrow.Author.Rules.{rules}
-use Rattle.comparison.proofs.rows.first_column.Statement.{statement}
-use Rattle.comparison.proofs.rows.first_column.Tie as tie
+use Rattle.comparison.proofs.row_walk.first_column.Statement.{statement}
+use Rattle.comparison.proofs.row_walk.first_column.Tie as tie
 
 returns : tie.Need-returns-then-e
 unfolding first_of
@@ -19,7 +19,7 @@ add-result : tie.Need-overflow_add-result
 add-result c =
     let s = c.before.before.before.before.before.before in
     let m = s.args.e.minus - s.args.e.plus - 1 in
-    record { fits = omega (arith, quotient-small m (s.args.e.v - s.args.e.y) s.args.e.minus (omega arith), s.well-formed) }
+    record { fits = omega (arith, quotient-small m (s.args.e.v - s.args.e.y) s.args.e.minus (omega arith), s.well_formed) }
 
 returns-3 : tie.Need-returns
 unfolding first_of

@@ -6,8 +6,8 @@ use borrow.Author.Rules.{rules}
 use Rattle.chart.specs.Limits.{side}
 use Rattle.comparison.specs.parts.Rows.{first_of, first_at, in_rows, AllBelow, Lowered}
 use Rattle.comparison.proofs.Lists.{low-start, low-next, low_end}
-use Rattle.comparison.proofs.rows.rise.Statement.{statement}
-use Rattle.comparison.proofs.rows.rise.Tie as tie
+use Rattle.comparison.proofs.row_walk.rise.Statement.{statement}
+use Rattle.comparison.proofs.row_walk.rise.Tie as tie
 
 abbrev invariant-loop : tie.invariant-loop-row
 invariant-loop p q first₀ row₀ first row =

@@ -2,8 +2,8 @@
 use mathlib.Core.Path.{◌∙◌}
 use borrow.Author.Rules.{rules}
 use Rattle.comparison.proofs.RowTests.{compared-swept}
-use Rattle.comparison.proofs.rows.test_rows.Statement.{statement}
-use Rattle.comparison.proofs.rows.test_rows.Tie as tie
+use Rattle.comparison.proofs.row_walk.test_rows.Statement.{statement}
+use Rattle.comparison.proofs.row_walk.test_rows.Tie as tie
 
 returns : tie.Need-returns
 returns c =

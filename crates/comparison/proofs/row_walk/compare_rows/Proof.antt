@@ -8,8 +8,8 @@ use Rattle.chart.specs.Limits.{side}
 use Rattle.sweep.specs.parts.Tests.{run_within}
 use Rattle.comparison.specs.parts.Rows.{compared_to}
 use Rattle.comparison.proofs.RowTests.{apart-is, compared-start, compared-next}
-use Rattle.comparison.proofs.rows.compare_rows.Statement.{statement}
-use Rattle.comparison.proofs.rows.compare_rows.Tie as tie
+use Rattle.comparison.proofs.row_walk.compare_rows.Statement.{statement}
+use Rattle.comparison.proofs.row_walk.compare_rows.Tie as tie
 
 abbrev invariant-loop : tie.invariant-loop-row
 invariant-loop first end other-first other-end inward₀ outward₀ apart₀ row₀ inward outward apart row =
@@ -29,8 +29,8 @@ loop-again c =
     let n = t.loop-row.row in
     let a = get_or s.first.now n 0 in
     let b = get_or s.end.now n 0 in
-    let g = get_or s.other-first.now n 0 in
-    let h = get_or s.other-end.now n 0 in
+    let g = get_or s.other_first.now n 0 in
+    let h = get_or s.other_end.now n 0 in
     (omega (arith, t.loop-row.invariant.0), compared-next _ _ _ _ n _ _ _ _ _ _ t.loop-row.invariant.1 refl refl (apart-is a b g h))
 
 returns : tie.Need-returns invariant-loop decreases-loop

@@ -4,8 +4,8 @@ use native.Mathlib.Omega.{arith}
 use Rattle.comparison.specs.parts.Rows.{end_of}
 use Rattle.comparison.proofs.Columns.{end-rising, end-outer, end-level, end-inner, quotient-small}
 use borrow.Author.Rules.{rules}
-use Rattle.comparison.proofs.rows.end_column.Statement.{statement}
-use Rattle.comparison.proofs.rows.end_column.Tie as tie
+use Rattle.comparison.proofs.row_walk.end_column.Statement.{statement}
+use Rattle.comparison.proofs.row_walk.end_column.Tie as tie
 
 returns : tie.Need-returns-then-e
 unfolding end_of

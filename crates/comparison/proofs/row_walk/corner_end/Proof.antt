@@ -4,8 +4,8 @@ use borrow.Author.Rules.{rules}
 use Rattle.comparison.specs.parts.Rows.{met_to}
 use Rattle.comparison.proofs.Lists.{high_one}
 use Rattle.comparison.proofs.Sweeps.{to-here, to-else}
-use Rattle.comparison.proofs.rows.corner_end.Statement.{statement}
-use Rattle.comparison.proofs.rows.corner_end.Tie as tie
+use Rattle.comparison.proofs.row_walk.corner_end.Statement.{statement}
+use Rattle.comparison.proofs.row_walk.corner_end.Tie as tie
 
 returns : tie.Need-returns
 returns c =

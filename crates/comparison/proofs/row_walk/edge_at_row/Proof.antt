@@ -4,8 +4,8 @@ use native.Mathlib.Omega.{arith}
 use mathlib.Core.Path.{refl}
 use borrow.Author.Rules.{rules}
 use Rattle.comparison.proofs.Columns.{product_small}
-use Rattle.comparison.proofs.rows.edge_at_row.Statement.{statement}
-use Rattle.comparison.proofs.rows.edge_at_row.Tie as tie
+use Rattle.comparison.proofs.row_walk.edge_at_row.Statement.{statement}
+use Rattle.comparison.proofs.row_walk.edge_at_row.Tie as tie
 
 -- The four products
 plus_one : (s : tie.Start) → s.args.q.col * s.args.p.row ≤ 64516
