@@ -32,15 +32,9 @@ returns c =
     let r = table-read c.before.before.before.before.before.before in
     let s = c.before.before.before in
     record {
-<<<<<<< HEAD
-      dx = to_z-of_z w16 s.steps.result (record { sfits = s.steps.type-inv }) ∙ simp (r.earlier_cols, r.later_cols) at s.steps.ensures;
-      dy = to_z-of_z w16 c.steps-2.result (record { sfits = c.steps-2.type-inv })
-          ∙ simp (r.earlier_rows, r.later_rows) at c.steps-2.ensures;
-=======
       dx = to_z-of_z w16 s.steps.result (record { sfits = s.steps.type_inv }) ∙ simp (r.earlier_cols, r.later_cols) at s.steps.ensures;
       dy = to_z-of_z w16 c.steps-2.result (record { sfits = c.steps-2.type_inv })
           ∙ simp (r.earlier_rows, r.later_rows) at c.steps-2.ensures;
->>>>>>> c2f44b25783e7f4093cbd1c6ca425a3b80bd3c30
     }
 
 pub edge_of_spec : {M : Type 1} → statement M
