@@ -1,22 +1,21 @@
 -- The place's word, then the border that the edges give, then the rows.
-use Prim.Native.Nat.{ℕ, ◌*◌, ◌≤◌}
+use Prim.Native.Nat.{ℕ, ◌≤◌}
 use native.Mathlib.Omega.{arith}
-use mathlib.Core.Path.{◌≡◌, sym, ap, ◌∙◌}
+use mathlib.Core.Path.{◌≡◌, sym, ◌∙◌}
 use mathlib.Core.Bool.{true≢false}
 use mathlib.Core.List.{List}
 use lib.ListN.{length, take}
 use lib.Seq.{length-take-le}
-use borrow.Author.Tests.{eq-eqb, eqb-true, not-true, not-false}
 use Rattle.chart.specs.Limits.{longest}
 use Rattle.chart.specs.Outline.{outline}
 use Rattle.spans.specs.Spans.{spans_of}
 use Rattle.span_list.specs.SpanList.{spans_at}
 use Rattle.border_model.specs.declared.Traced.TheVariants.{Written}
-use Rattle.holder_records.specs.Work.{Work, work_edges}
+use Rattle.holder_records.specs.Work.{Work}
 use Rattle.holder_memory.specs.Layout.{Holder, arrays, work_at}
 use Rattle.holder_images.specs.declared.Held.TheVariants.{Whole, Damaged}
 use Rattle.holder_images.specs.parts.Found.{Holds}
-use Rattle.holder_images.proofs.WholeLaws.{own_is, traced-count, anchor-fits, found-whole, found-other, found_none, miscounted, busy}
+use Rattle.holder_images.proofs.WholeLaws.{own_is, traced-count, anchor-fits, found-whole, found-other, found_none, busy}
 use Rattle.holder_images.proofs.WholeLaws.{holds-nothing, holds-damaged, holds-idle, holds-whole}
 use borrow.Author.Rules.{rules}
 use Rattle.holder_images.proofs.find.Statement.{statement}
@@ -27,14 +26,8 @@ module _ (c : tie.After-slice_known-2-1) where
   abbrev said : tie.After-border-traced
   said = c.before.before
 
-  abbrev three : tie.Else-not-counted
-  three = said.before.before
-
-  abbrev told : tie.After-counted
-  told = three.before
-
   abbrev asked : tie.After-edges_at-list
-  asked = told.before
+  asked = said.before.before
 
   abbrev two : tie.Else-slot-ge-SLOTS
   two = asked.before.before
@@ -60,11 +53,6 @@ module _ (c : tie.After-slice_known-2-1) where
   abbrev given : List ℕ → Holder
   given own = arrays own start.args.rows.now start.args.numbers.now start.args.heads.now
 
-  count-own : 2 * work.edges ≡ length (work_edges work)
-  count-own =
-      eqb-true _ _ (sym (told.counted.ensures start.args.rows.now start.args.numbers.now) ∙ not-false _ three.if-not-counted.left)
-      ∙ ap length (asked.edges_at-list.ensures start.args.rows.now)
-
   counted : (n : ℕ) → said.border-traced.result ≡ Written n → n ≤ longest
   counted n e =
       traced-count work _ _ (asked.before.anchor_at-anchor.ensures start.args.rows.now start.args.numbers.now)
@@ -82,7 +70,7 @@ module _ (c : tie.After-slice_known-2-1) where
       let one = begun.if-word-eq0.left in
       holds-whole (given own) _ _ after one slot named.slot_of-slot.ensures _ n
       (found-whole work _ _ ea ee start.args.letters-1.now after room _ said.border-traced.ensures.0 said.border-traced.ensures.1.1 n e
-      (busy (given own) start.args.p start.args.k after one slot named.slot_of-slot.ensures two.if-slot-ge-SLOTS.left) count-own same)
+      (busy (given own) start.args.p start.args.k after one slot named.slot_of-slot.ensures two.if-slot-ge-SLOTS.left) same)
       (own_is work _ _ ea ee start.args.letters-1.now after room _ said.border-traced.ensures.0 said.border-traced.ensures.1.1 n e)
       (counted n e)
       (anchor-fits work _ _ ea ee start.args.letters-1.now after room _ said.border-traced.ensures.0 said.border-traced.ensures.1.1 n e)
@@ -111,21 +99,6 @@ returns c = λ own. holds-nothing _ _ _ _ c.if-word-eq0.true
 returns-2 : tie.Need-returns-then-slot-ge-SLOTS
 returns-2 c = λ own. holds-idle _ _ _ _ c.before.before.if-word-eq0.false _ c.before.slot_of-slot.ensures c.if-slot-ge-SLOTS.true
 
-returns-3 : tie.Need-returns-then-not-counted
-returns-3 c = λ own.
-    let told = c.before in
-    let asked = told.before in
-    let two = asked.before.before in
-    let named = two.before in
-    let begun = named.before in
-    let s = begun.before.before.before.before.before in
-    let list = asked.edges_at-list.ensures s.args.rows.now in
-    holds-damaged _ _ _ _ begun.if-word-eq0.false named.slot_of-slot.result named.slot_of-slot.ensures
-    (miscounted _
-    (λ e. true≢false
-    (sym (told.counted.ensures s.args.rows.now s.args.numbers.now ∙ eq-eqb _ _ (e ∙ sym (ap length list)))
-    ∙ not-true _ c.if-not-counted.true)))
-
 slice-reshare-prefix-same-rows : tie.Need-slice_bounds-same_rows-end
 slice-reshare-prefix-same-rows c =
     let m = c.before.before.before in
@@ -139,26 +112,25 @@ slice-aggregate-same-rows c =
     omega (arith, counted m n c.before.before.traced-1.given.1, (said m).border-traced.auto.1.1.0, (start m).requires.5) in
     sym (length-take-le n (after m) l)
 
-returns-4 : tie.Need-returns-then-same_rows
-returns-4 c =
+returns-3 : tie.Need-returns-then-same_rows
+returns-3 c =
     let r = c.before in
     let t = r.before.before.before in
     sound t.before.before t.traced-1.given.0.0 t.traced-1.given.1 (r.same_rows.ensures.0 c.if-same_rows.true)
 
-returns-5 : tie.Need-returns-else-same_rows
-returns-5 c =
+returns-4 : tie.Need-returns-else-same_rows
+returns-4 c =
     let r = c.before in
     let t = r.before.before.before in
     unsound t.before.before t.traced-1.given.0.0 t.traced-1.given.1
     (λ e. true≢false (sym (r.same_rows.ensures.1 e) ∙ c.if-same_rows.false))
 
-returns-6 : tie.Need-returns-in-Refused
-returns-6 c = untraced c.before.before (λ n e. let g = c.enum_told-1.given.1 in let z : ◌≡◌ {A = ℕ} 0 1 = cc in omega (arith, z))
+returns-5 : tie.Need-returns-in-Refused
+returns-5 c = untraced c.before.before (λ n e. let g = c.enum_told-1.given.1 in let z : ◌≡◌ {A = ℕ} 0 1 = cc in omega (arith, z))
 
 pub find_spec : {M : Type 1} → statement M
 find_spec =
     tie.close
     (tie.spec (λ c. search rules) (λ c. search rules) (λ c. search rules) (λ c. search rules) (λ c. search rules) returns
-    (λ c κs. search rules) returns-2 (λ c κs. search rules) (λ c κs. search rules) (λ c κs. search rules) returns-3
-    (λ c κs. search rules) (λ c. search rules) (λ c. search rules) slice-reshare-prefix-same-rows slice-aggregate-same-rows
-    (λ c κs. search rules) (λ c. search rules) (λ c. search rules) returns-4 (λ c. search rules) returns-5 (λ c. search rules) returns-6)
+    (λ c κs. search rules) returns-2 (λ c κs. search rules) (λ c κs. search rules) (λ c κs. search rules) (λ c. search rules) (λ c. search rules) slice-reshare-prefix-same-rows slice-aggregate-same-rows
+    (λ c κs. search rules) (λ c. search rules) (λ c. search rules) returns-3 (λ c. search rules) returns-4 (λ c. search rules) returns-5)
