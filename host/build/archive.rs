@@ -20,8 +20,8 @@ pub const TARGETS: [(&str, &str); 6] = [
     ("riscv32imac-unknown-none-elf", "riscv32imac"),
 ];
 
-/// The folder of the archive for a target of Rust: the one that the variable names, else one below `target/` at the repository's root.
-/// Where there is none, what to do.
+/// The folder of the archive for a target of Rust: the one that the variable names, else the one in which `rt lib` or `./build` has written
+/// it. Where there is none, what to do.
 pub fn folder(target: &str, named: Option<&Path>, root: &Path) -> Result<PathBuf, String> {
     if let Some(named) = named {
         return match named.join(ARCHIVE).is_file() {
@@ -32,13 +32,13 @@ pub fn folder(target: &str, named: Option<&Path>, root: &Path) -> Result<PathBuf
     let Some((_, name)) = TARGETS.iter().find(|(known, _)| *known == target) else {
         return Err(format!("./build makes no archive for {target}. Set {VARIABLE} to a folder that has {ARCHIVE} for it."));
     };
-    // `rt staticlib robequarry` writes the archive for the machine on which it runs.
+    // `rt lib` writes the archive for the machine on which it runs.
+    let built = root.join("target").join(name);
     let (folders, command) = match *name {
-        "x86_64-linux" => (vec!["staticlib", name], "rt staticlib robequarry".to_string()),
-        _ => (vec![*name], format!("./build {name}")),
+        "x86_64-linux" => (vec![root.join("crates/robequarry/out"), built], "cd crates/robequarry && rt lib".to_string()),
+        _ => (vec![built], format!("./build {name}")),
     };
-    let mut folders = folders.iter().map(|folder| root.join("target").join(folder));
-    folders.find(|folder| folder.join(ARCHIVE).is_file()).ok_or_else(|| {
+    folders.into_iter().find(|folder| folder.join(ARCHIVE).is_file()).ok_or_else(|| {
         format!(
             "The archive for {target} is missing. Run `{command}` at the repository's root first: it proves the library \
              and writes the archive. Or set {VARIABLE} to a folder that has {ARCHIVE}."

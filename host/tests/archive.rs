@@ -23,7 +23,7 @@ fn put(folder: &Path) {
     fs::write(folder.join(ARCHIVE), "").expect("it can be written");
 }
 
-/// Each target has its own archive; for this machine, what `rt staticlib` writes comes first.
+/// Each target has its own archive; for this machine, what `rt lib` writes comes first.
 #[test]
 fn each_target_has_its_own() {
     let root = made("archive-each");
@@ -34,7 +34,7 @@ fn each_target_has_its_own() {
         put(&own);
         assert_eq!(folder(target, None, &root), Ok(own));
     }
-    let first = root.join("target/staticlib");
+    let first = root.join("crates/robequarry/out");
     put(&first);
     assert_eq!(folder("x86_64-unknown-linux-gnu", None, &root), Ok(first));
     assert_eq!(folder("thumbv6m-none-eabi", None, &root), Ok(root.join("target/cortex-m0plus")));
@@ -45,7 +45,7 @@ fn each_target_has_its_own() {
 #[test]
 fn a_folder_that_is_named() {
     let (root, named) = (made("archive-root"), made("archive-named"));
-    put(&root.join("target/staticlib"));
+    put(&root.join("crates/robequarry/out"));
     let told = folder("x86_64-unknown-linux-gnu", Some(&named), &root).unwrap_err();
     assert!(told.contains(VARIABLE) && told.contains(&named.display().to_string()), "{told}");
     put(&named);

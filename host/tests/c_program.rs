@@ -1,5 +1,9 @@
 //! C programs over `include/robequarry.h` and the archive: header and library fit, in C99, C11 and C++.
 
+#[path = "../build/archive.rs"]
+#[allow(dead_code)]
+mod archive;
+
 use std::env;
 use std::ffi::{OsStr, OsString};
 use std::fs;
@@ -54,7 +58,8 @@ fn run(source: &Path, program: &str, defined: &[String]) -> Vec<String> {
         let program = made(&format!("{program}_{i}"));
         let mut command = compiler(name, words);
         command.args(defined).arg(source).args(["-x", "none"]);
-        command.arg(host().join("../target/staticlib/librobequarry.a")).arg("-o").arg(&program);
+        let folder = archive::folder("x86_64-unknown-linux-gnu", None, &host().join("..")).expect("the build has linked it");
+        command.arg(folder.join(archive::ARCHIVE)).arg("-o").arg(&program);
         assert!(command.status().expect("there is a compiler").success(), "{name:?} {words:?}");
         let output = Command::new(&program).output().expect("it was just linked");
         let said = String::from_utf8_lossy(&output.stderr);

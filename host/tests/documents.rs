@@ -34,12 +34,27 @@ const WORDS: [&str; 14] = [
 ];
 
 /// Files that a command writes.
-const WRITTEN: [&str; 3] = ["target/staticlib/librobequarry.a", "host/target/release/robequarry", "target/bin/fittings"];
+const WRITTEN: [&str; 3] =
+    ["crates/robequarry/out/librobequarry.a", "host/target/release/robequarry", "crates/fittings/out/fittings"];
 
-/// What `rt` can be told to do.
-const RT: [&str; 6] = ["check", "ci", "must-fail", "prove", "staticlib", "version"];
+/// What `rt` can be told to do at the top of the repository, where names of crates may follow.
+const RT: [&str; 3] = ["ci", "must-fail", "version"];
+
+/// What it can be told to do in a crate's folder, where no name follows.
+const RT_IN_A_CRATE: [&str; 3] = ["check", "lib", "run"];
 
 fn command_error(tree: &Tree, line: &str) -> Option<String> {
+    if let Some((folder, then)) = line.strip_prefix("cd ").and_then(|rest| rest.split_once(" && ")) {
+        if !tree.is_folder(folder) {
+            return Some(format!("no folder {folder}"));
+        }
+        let in_a_crate = folder.strip_prefix("crates/").is_some_and(|name| tree.is_crate(name));
+        let verb = then.strip_prefix("rt ").and_then(|rest| rest.split_whitespace().next());
+        if verb.is_some_and(|verb| !in_a_crate || !RT_IN_A_CRATE.contains(&verb)) {
+            return Some(format!("not in {folder}"));
+        }
+        return command_error(tree, then);
+    }
     let words: Vec<&str> = line.split_whitespace().take_while(|word| !word.starts_with('#')).collect();
     let after = |flag: &str| words.iter().position(|word| *word == flag).and_then(|at| words.get(at + 1)).copied();
     if let Some(name) = after("--bin") {
@@ -60,9 +75,13 @@ fn command_error(tree: &Tree, line: &str) -> Option<String> {
     }
     let second = *words.get(1)?;
     match first {
-        "rt" if !RT.contains(&second) => Some(format!("rt has no {second}")),
         "rt" => {
-            words.get(2).filter(|name| tree::is_name(name) && !tree.is_crate(name)).map(|name| format!("no crate {name}"))
+            let name = words.get(2).filter(|name| tree::is_name(name));
+            match (RT.contains(&second), RT_IN_A_CRATE.contains(&second)) {
+                (true, _) => name.filter(|name| !tree.is_crate(name)).map(|name| format!("no crate {name}")),
+                (_, true) => name.map(|name| format!("rt {second} {name}: in that crate's folder, with no name")),
+                _ => Some(format!("rt has no {second}")),
+            }
         }
         "robequarry" if second.starts_with('-') => None,
         "robequarry" => {
@@ -234,20 +253,62 @@ fn loops(tree: &Tree) -> BTreeSet<(String, String)> {
                 function = rest.split(['(', '<']).next().unwrap_or(rest);
             }
             if line.starts_with("while ") || line.starts_with("loop ") || line.starts_with("for ") {
-                found.insert((format!("{}::{function}", names.join("::")), measure(&names, function)));
+                found.insert((format!("{}::{function}", names.join("::")), measure(tree, &names, function)));
             }
         }
     }
     found
 }
 
-/// The measure of the one loop of a function.
-fn measure(names: &[&str], function: &str) -> String {
-    let path = format!("crates/{}/proofs/{}", names[0], [&names[1..], &[function, "Proof.antt"]].concat().join("/"));
-    let proof = read(&path);
-    let measures: Vec<&str> = proof.lines().filter(|line| line.starts_with("μ-loop ")).collect();
-    assert_eq!(measures.len(), 1, "{path} has one measure");
-    measures[0].split_once(" = ").expect("a measure is an equation").1.trim().to_string()
+/// The measure of the one loop of a function, which stands in one of the files of its proof.
+fn measure(tree: &Tree, names: &[&str], function: &str) -> String {
+    let folder = format!("crates/{}/proofs/{}", names[0], [&names[1..], &[function]].concat().join("/"));
+    let files = ["Invariants.antt", "Proof.antt"].map(|file| format!("{folder}/{file}"));
+    let measures: Vec<String> =
+        files.iter().filter(|file| tree.is_file(file)).flat_map(|file| measures_in(&read(file))).collect();
+    assert_eq!(measures.len(), 1, "{folder} has one measure");
+    measures.into_iter().next().expect("there is one")
+}
+
+/// What a proof says of the measures of loops: `decreases-loop a b = MEASURE`, or `decreases-loop-b l = MEASURE`, where `l.a` and `l.b` are
+/// the names of the code. It may take several lines.
+fn measures_in(proof: &str) -> Vec<String> {
+    let mut found: Vec<(String, String)> = Vec::new();
+    let mut on = false;
+    for line in proof.lines() {
+        if let Some((left, right)) = line.split_once(" =").filter(|_| line.starts_with("decreases-loop")) {
+            let words: Vec<&str> = left.split_whitespace().collect();
+            let all = if let [_, one] = words[..] { one } else { "" };
+            found.push((all.to_string(), right.trim().to_string()));
+            on = true;
+        } else if let Some((_, measure)) = found.last_mut().filter(|_| on && line.starts_with(' ')) {
+            *measure = format!("{measure} {}", line.trim()).trim().to_string();
+        } else {
+            on = false;
+        }
+    }
+    found.iter().map(|(all, measure)| without_fields(measure, all)).collect()
+}
+
+/// A term with `a` for each `l.a`.
+fn without_fields(term: &str, all: &str) -> String {
+    let mut out = String::new();
+    let mut rest = term;
+    while let Some(at) = rest.find(&format!("{all}.")).filter(|_| !all.is_empty()) {
+        let begins = !rest[..at].ends_with(|c: char| c.is_alphanumeric() || "_-'.".contains(c));
+        let end = at + all.len() + 1;
+        out.push_str(if begins { &rest[..at] } else { &rest[..end] });
+        rest = &rest[end..];
+    }
+    out + rest
+}
+
+#[test]
+fn measures_are_read() {
+    let old = "abbrev decreases-loop : tie.decreases-loop-i\ndecreases-loop w i₀ i = length w - i\n";
+    let new = "abbrev pub decreases-loop-i : goal.decreases-loop-i\ndecreases-loop-i l =\n    length l.w\n    - l.i + tail.x\n\nother = l.z\n";
+    assert_eq!(measures_in(old), ["length w - i"]);
+    assert_eq!(measures_in(new), ["length w - i + tail.x"]);
 }
 
 #[test]
@@ -383,15 +444,20 @@ fn modules_in(tree: &Tree, cell: &str) -> Vec<String> {
     found
 }
 
-/// The modules of `specs/` that a file imports. What is declared there is left out: the code's own structs and enums.
-fn imported(path: &str) -> BTreeSet<String> {
+/// The modules of `specs/` that a file imports of the repository's crates. What is declared there is left out: the code's own structs and
+/// enums.
+fn imported(tree: &Tree, path: &str) -> BTreeSet<String> {
     let module = |line: &str| {
-        let (of, rest) = line.split_once("use Rattle·")?.1.split_once(".specs.")?;
-        let name = rest.split([' ', '{']).next()?.trim_end_matches('.');
-        (!name.starts_with("declared."))
-            .then(|| format!("{}/specs/{}", of.trim_end_matches("·specs"), name.replace('.', "/")))
+        let (of, rest) = line.split_once("use Rattle.")?.1.split_once(".specs.")?;
+        let name = rest.split([' ', '{', ';']).next()?.trim_end_matches('.');
+        assert!(!name.is_empty(), "{path}: {line}");
+        (tree.is_crate(of) && !name.starts_with("declared.")).then(|| format!("{of}/specs/{}", name.replace('.', "/")))
     };
-    read(path).lines().filter_map(module).collect()
+    let found: BTreeSet<String> = read(path).lines().filter_map(module).collect();
+    for module in &found {
+        assert!(tree.is_file(&format!("crates/{module}.antt")), "{path} imports {module}");
+    }
+    found
 }
 
 #[test]
@@ -422,11 +488,38 @@ fn the_reading_list_is_closed() {
     let mut read_first: Vec<String> = listed.iter().map(|module| format!("crates/{module}.antt")).collect();
     read_first.push("crates/outline/src/lib.rt".to_string());
     for reader in read_first {
-        for module in imported(&reader).into_iter().filter(|m| !listed.contains(m) && !NOT_LISTED.contains(&m.as_str())) {
+        for module in
+            imported(&tree, &reader).into_iter().filter(|m| !listed.contains(m) && !NOT_LISTED.contains(&m.as_str()))
+        {
             wrong.push(format!("{reader} imports {module}, which is not listed"));
         }
     }
     assert!(wrong.is_empty(), "README.md, \"A reading list\":\n{}", wrong.join("\n"));
+}
+
+/// The first function of a file of code that calls itself by its name, or is in a cycle of calls. A method stands further in, and a function
+/// beside it may have its name.
+fn calls_itself(text: &str) -> Option<String> {
+    let (mut function, mut of_a_type) = ("", false);
+    for line in text.lines().map(|line| line.split("//").next().unwrap_or("")) {
+        if line.contains("#[cycle(") {
+            return Some(line.trim().to_string());
+        }
+        if let Some((_, rest)) = line.split_once("fn ") {
+            function = rest.split(['(', '<']).next().unwrap_or(rest);
+            of_a_type = line.starts_with(' ');
+            continue;
+        }
+        let calls = |at: usize| !line[..at].ends_with(|c: char| c.is_alphanumeric() || "_:.".contains(c));
+        let named = match of_a_type {
+            true => vec![format!("self.{function}("), format!("Self::{function}(")],
+            false => vec![format!("{function}(")],
+        };
+        if !function.is_empty() && named.iter().any(|call| line.match_indices(call).any(|(at, _)| calls(at))) {
+            return Some(function.to_string());
+        }
+    }
+    None
 }
 
 /// What docs/SAFETY.md says of the tree as a whole.
@@ -434,18 +527,29 @@ fn the_reading_list_is_closed() {
 fn the_tree_is_as_the_safety_case_says() {
     let tree = Tree::new();
     for path in tree.files.iter().filter(|path| path.starts_with("crates/robequarry/src/") && path.ends_with(".rt")) {
-        assert!(!read(path).contains("requires {"), "{path}: no function of C requires anything");
+        let code = |line: &str| {
+            line.split("//")
+                .next()
+                .unwrap_or("")
+                .split(|c: char| !c.is_alphanumeric() && c != '_')
+                .any(|word| word == "requires")
+        };
+        assert!(!read(path).lines().any(code), "{path}: no function of C requires anything");
     }
     // The proof of a cycle of calls stands in a folder that begins with a plus sign.
     let cycles = tree.files.iter().filter(|path| path.starts_with("crates/") && path.contains("/+"));
     let mut others = cycles.filter(|path| !path.starts_with("crates/text_lines/"));
     assert_eq!(others.next(), None, "a function that calls itself");
+    for path in tree.code.keys().filter(|path| path.starts_with("crates/") && !path.starts_with("crates/text_lines/")) {
+        assert_eq!(calls_itself(&read(path)), None, "{path}: a function that calls itself");
+    }
+    assert_eq!(calls_itself(&read("crates/text_lines/src/lib.rt")).as_deref(), Some("put_number"));
     for line in read("crates.txt").lines().filter(|line| !line.starts_with('#')) {
         let (name, uses) = line.split_once(':').unwrap_or((line, ""));
-        let outside = uses.split_whitespace().any(|used| ["io", "libc", "os"].contains(&used));
+        let outside = uses.split_whitespace().any(|used| !tree.is_crate(used));
         assert!(
             !outside || name == "fittings" || name.starts_with("test_"),
-            "{name}: only programs use libraries of the kit"
+            "{name}: only programs use libraries of the toolchain besides std"
         );
     }
 }
@@ -478,7 +582,9 @@ fn a_wrong_name_is_found() {
         "`RQ_SIDE`",
         "docs/CONTRACT.md",
         "`./test`",
-        "`rt check words`",
+        "`rt must-fail words`",
+        "`rt check`",
+        "`cd crates/words && rt check`",
         "`cargo run --release --bin differential`",
         "`robequarry check FILE`",
         "1/64",
@@ -496,7 +602,13 @@ fn a_wrong_name_is_found() {
         "`rq_..._pasts`",
         "docs/NO.md",
         "`./no_such`",
-        "`rt check no_such`",
+        "`rt must-fail no_such`",
+        "`rt check words`",
+        "`rt no_such`",
+        "`cd crates/no_such && rt check`",
+        "`cd host && rt check`",
+        "`cd host && rt ci`",
+        "`cd crates/words && rt ci`",
         "`cargo run --release --bin no_such`",
         "`robequarry no_such FILE`",
     ] {

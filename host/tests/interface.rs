@@ -704,13 +704,17 @@ fn readings_as_values() {
 /// The archive that is linked is named by its digest, of which the standard's examples hold.
 #[test]
 fn the_library_says_which_it_is() {
+    #[path = "../build/archive.rs"]
+    #[allow(dead_code)]
+    mod archive;
     #[path = "../build/sha256.rs"]
     mod sha256;
     assert_eq!(sha256::hexadecimal(b""), "e3b0c44298fc1c149afbf4c8996fb92427ae41e4649b934ca495991b7852b855");
     assert_eq!(sha256::hexadecimal(b"abc"), "ba7816bf8f01cfea414140de5dae2223b00361a396177a9cb410ff61f20015ad");
     let two = b"abcdbcdecdefdefgefghfghighijhijkijkljklmklmnlmnomnopnopq";
     assert_eq!(sha256::hexadecimal(two), "248d6a61d20638b8e5c026930c3e6039a33ce45964ff2167f6ecedd419db06c1");
-    let archive = concat!(env!("CARGO_MANIFEST_DIR"), "/../target/staticlib/librobequarry.a");
-    let bytes = std::fs::read(archive).expect("the build has linked it");
+    let root = concat!(env!("CARGO_MANIFEST_DIR"), "/..");
+    let folder = archive::folder("x86_64-unknown-linux-gnu", None, root.as_ref()).expect("the build has linked it");
+    let bytes = std::fs::read(folder.join(archive::ARCHIVE)).expect("the build has linked it");
     assert_eq!(robequarry::ARCHIVE, sha256::hexadecimal(&bytes));
 }

@@ -20,8 +20,8 @@ fn root() -> PathBuf {
 
 /// What the program writes, with a file as its standard input.
 fn fittings(file: &[u8]) -> String {
-    let program = root().join("target/bin/fittings");
-    assert!(program.is_file(), "target/bin/fittings is missing: run `rt check fittings` at the repository's root first");
+    let program = root().join("crates/fittings/out/fittings");
+    assert!(program.is_file(), "crates/fittings/out/fittings is missing: run `rt run` in crates/fittings first");
     let mut child = Command::new(program).stdin(Stdio::piped()).stdout(Stdio::piped()).spawn().expect("it is there");
     let mut input = child.stdin.take().expect("it was piped");
     let bytes = file.to_vec();

@@ -1,9 +1,13 @@
 //! The documents: what they link to is there, the commands that they name are commands, and the calls that they show run as they stand.
 
+mod support;
+
 use std::fs;
 use std::os::unix::fs::symlink;
 use std::path::{Path, PathBuf};
 use std::process::{Command, Stdio};
+
+use support::room::Room;
 
 fn root() -> PathBuf {
     Path::new(env!("CARGO_MANIFEST_DIR")).join("../..")
@@ -83,12 +87,10 @@ fn commands_of_the_documents_are_commands() {
 }
 
 /// A folder with what the repository has, in which a call may write. Each document has its own.
-fn workplace(document: &str) -> PathBuf {
-    let folder = Path::new(env!("CARGO_TARGET_TMPDIR")).join("documents").join(document.replace('/', "-"));
-    let _ = fs::remove_dir_all(&folder);
-    fs::create_dir_all(&folder).expect("the folder for tests can be written");
+fn workplace(document: &str) -> Room {
+    let folder = Room::new(&document.replace('/', "-"));
     for name in ["files", "docs", "host", "include"] {
-        symlink(root().join(name).canonicalize().expect("it is there"), folder.join(name)).expect("it is new");
+        symlink(root().join(name).canonicalize().expect("it is there"), folder.path().join(name)).expect("it is new");
     }
     folder
 }
@@ -127,10 +129,10 @@ fn run_calls(document: &str) -> usize {
             while let Some(output) = lines.next_if(|next| next.starts_with("    ") && !next.starts_with("    $ ")) {
                 shown += &format!("{}\n", &output[4..]);
             }
-            assert_eq!(called(call, &folder).0, shown, "{document}: {call}");
+            assert_eq!(called(call, folder.path()).0, shown, "{document}: {call}");
             runs += 1;
         } else if code.starts_with("robequarry ") && !is_pattern(call_of(code)) {
-            let (said, status) = called(call_of(code), &folder);
+            let (said, status) = called(call_of(code), folder.path());
             assert!(status == 0 || status == 1, "{document}: {}: {said}", call_of(code));
             runs += 1;
         }

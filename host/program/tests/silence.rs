@@ -9,6 +9,7 @@ use std::path::Path;
 use std::process::Command;
 
 use support::call::{err, fed, file, out, path, program, record, status, DENTED, PLUS};
+use support::room::Room;
 
 /// A fresh folder.
 fn folder(name: &str) -> String {
@@ -49,8 +50,9 @@ fn nothing_checked_is_a_status_of_its_own() {
 /// A pipe in a folder does not hold the run up, and a link to a folder is said to be one.
 #[test]
 fn only_regular_files_of_a_folder_are_read() {
-    let odd = folder("silence/odd");
-    file("silence/odd/a.txt", b"0 0 1032\n");
+    let room = Room::new("odd");
+    let odd = room.path().display().to_string();
+    fs::write(room.path().join("a.txt"), b"0 0 1032\n").expect("it can be written");
     assert!(Command::new("mkfifo").arg(format!("{odd}/pipe.txt")).status().expect("there is one").success());
     symlink(&odd, format!("{odd}/round")).expect("it is new");
     symlink("nowhere", format!("{odd}/broken.fit")).expect("it is new");

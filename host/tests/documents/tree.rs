@@ -33,7 +33,7 @@ fn files_below(folder: &Path, above: &str, found: &mut BTreeSet<String>) {
         let name = entry.file_name().to_string_lossy().into_owned();
         let path = format!("{above}{name}");
         if entry.file_type().expect("it has a type").is_dir() {
-            if !["target", ".git", "node_modules", "__pycache__"].contains(&name.as_str()) {
+            if !["target", "out", ".git", "node_modules", "__pycache__"].contains(&name.as_str()) {
                 files_below(&entry.path(), &format!("{path}/"), found);
             }
         } else {

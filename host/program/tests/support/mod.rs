@@ -1,4 +1,5 @@
 #![allow(dead_code)] // each test uses its own part
 
 pub mod call;
+pub mod room;
 pub mod xml;
