@@ -3,13 +3,13 @@
 use Prim.Native.Nat.{ℕ, ◌<◌, ◌≤◌}
 use native.Mathlib.Omega.{arith}
 use mathlib.Core.Path.{◌≡◌, refl, sym, ap, ap₂, subst, ◌∙◌}
-use mathlib.Core.Logic.{◌⊎◌, ⊎_elim}
+use mathlib.Core.Logic.{⊎_elim}
 use mathlib.Core.Bool.{true, false}
-use lib.Dec.{leb, eqb}
+use lib.Dec.{leb}
 use borrow.Author.Tests.{ne_eqb, leb-true, lt-leb}
 use Rattle.base.specs.Below.{every}
 use Rattle.base.proofs.BelowLaws.{not-held, every-at}
-use Rattle.chart.specs.Outline.{Outline, outline}
+use Rattle.chart.specs.Outline.{outline}
 use Rattle.chart.specs.declared.Refusal.TheVariants.{Damaged}
 use Rattle.calls.specs.Calls.{parties, places}
 use Rattle.calls.specs.declared.Reply.TheVariants.{Refused}
