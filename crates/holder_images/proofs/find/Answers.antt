@@ -7,7 +7,6 @@ use lib.ListN.{length}
 use lib.Seq.{length-take-le}
 use borrow.Author.Tests.{eq-eqb, eqb-true}
 use Rattle.chart.specs.Limits.{longest}
-use Rattle.holder_records.specs.Work.{work_edges}
 use Rattle.holder_memory.specs.Layout.{arrays, work_at}
 use Rattle.holder_images.proofs.WholeLaws.{own_is, traced-count, anchor-fits, found-whole, found-other, found_none, miscounted, busy}
 use Rattle.holder_images.proofs.WholeLaws.{holds-nothing, holds-damaged, holds-idle, holds-whole}

@@ -1,7 +1,6 @@
 -- Both lists of columns are compared.
 use mathlib.Core.Path.{sym, ap, ap₂, ◌∙◌}
 use mathlib.Core.Bool.{true≢false}
-use mathlib.Core.List.{List}
 use Rattle.spans.specs.declared.Spans.{Spans}
 use Rattle.span_list.specs.SpanList.{spans_from}
 use Rattle.pile_images.proofs.same_rows.Goals as goal

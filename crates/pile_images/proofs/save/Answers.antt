@@ -1,6 +1,6 @@
 -- 22, or what the layer's rows are decides.
 use native.Mathlib.Omega.{arith}
-use mathlib.Core.Path.{◌≡◌, sym, ap₂}
+use mathlib.Core.Path.{sym, ap₂}
 use lib.Seq.{length-take-le}
 use Rattle.span_list.specs.SpanList.{spans_from, spans_at}
 use Rattle.pile_images.proofs.SaveLaws.{outline-fits, saved-damaged, saved-empty, saved-outline, save-high, save-layer}
