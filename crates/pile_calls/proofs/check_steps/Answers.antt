@@ -1,13 +1,6 @@
 -- What is left to do has the outcome of the whole, and the rows with cells serve as long as columns are left.
 use native.Mathlib.Omega.{arith}
-use Prim.Native.Nat.{◌<◌}
-use mathlib.Core.Path.{◌≡◌, refl, ◌∙◌}
-use lib.ListN.{get_or}
-use Rattle.chart.specs.Limits.{side}
-use Rattle.live_sections.specs.Layers.{layers_of}
-use Rattle.live_sections.specs.parts.Reach.{reach_of}
-use Rattle.pile_calls.specs.Arrays.{arrays}
-use Rattle.pile_calls.specs.Steps.{tested_at, steps_of}
+use mathlib.Core.Path.{refl, ◌∙◌}
 use Rattle.pile_calls.proofs.StepCases.{runs_none, runs-replied, runs-more, column-still}
 use Rattle.pile_calls.proofs.check_steps.Goals as goal
 
