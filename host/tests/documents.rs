@@ -240,8 +240,11 @@ fn what_the_documents_name_exists() {
 /// The loops of the library, each with the measure in its proof; the programs' are left out.
 fn loops(tree: &Tree) -> BTreeSet<(String, String)> {
     let mut found = BTreeSet::new();
-    for path in tree.code.keys().filter(|path| path.starts_with("crates/") && !path.starts_with("crates/test_")) {
+    for path in tree.code.keys().filter(|path| path.starts_with("crates/")) {
         let parts: Vec<&str> = path.trim_end_matches(".rt").split('/').collect();
+        if tree.is_file(&format!("crates/{}/src/main.rt", parts[1])) {
+            continue;
+        }
         let mut names: Vec<&str> = [&parts[1..2], &parts[3..]].concat();
         if ["lib", "main"].contains(&names[names.len() - 1]) {
             names.pop();
