@@ -2,15 +2,24 @@
 // on standard error.
 #![tactic(auto)]
 
-ghost use Rattle.std.specs.Prelude.{◌≡◌, ◌≤◌, length, take};
+ghost use Rattle.std.specs.Prelude.{◌≡◌, ◌≤◌, true, length, take};
+ghost use Rattle.std.specs.Io.KnownBytes.{Appends};
+ghost use Rattle.text_lines.specs.Text.{text_of};
+ghost use Rattle.fitting_listing.specs.Lines.{lines_of};
 
 use fitting_listing::{MOST, ROOM};
-use std::io::Read;
+use std::io::{Read, Write};
 
-// Lists a file in a buffer, and writes what was listed. Returns false where not all of it was written.
-fn write_listing(rt: &impl Print, file: &[u8], text: &mut [u8]) -> bool {
+// Lists a file in a buffer, and writes what was listed. Returns false where not all of it was written. Where it returns true, the text of
+// the file's lines was written, as far as the buffer has room.
+fn write_listing<W: Write>(out: &mut W, file: &[u8], text: &mut [u8]) -> bool
+    ensures { result ≡ true → Appends (W.contents out.old) (W.contents out.new) (take (length text.old) (text_of (lines_of file.now))) }
+{
     let end = fitting_listing::list(file, text);
-    rt.write_all(&text[..end]).is_ok()
+    match out.write_all(&text[..end]) {
+        Ok(()) => true,
+        Err(_) => false,
+    }
 }
 
 // Reads until the buffer is full, the input ends or a read fails, and returns how many bytes it put at the start of the buffer.
@@ -49,7 +58,7 @@ fn main(rt: HostRuntime) {
         whole = ended(&mut input);
     }
     if whole {
-        let written = write_listing(&rt, &file[..read], &mut text);
+        let written = write_listing(&mut rt.stdout(), &file[..read], &mut text);
         if !written {
             let _ = eprintln!(rt; "fittings: the listing cannot be written");
         }
