@@ -4,7 +4,7 @@ use native.Mathlib.Omega.{arith}
 use mathlib.Core.Path.{◌≡◌, sym, ap, ◌∙◌}
 use mathlib.Core.Bool.{true, false}
 use mathlib.Core.List.{List, ◌++◌}
-use lib.ListN.{length, take, drop, length-take}
+use lib.ListN.{length, take, drop}
 use borrow.Author.Rules.{rules}
 use Rattle.chart.specs.Fields.{placed}
 use Rattle.frames.specs.Frame.{header_bytes, frame_bytes, body_in, is_frame}

@@ -1,14 +1,12 @@
 -- The place's word, then the border that the edges give, then the rows.
 use Prim.Native.Nat.{ℕ, ◌≤◌}
 use native.Mathlib.Omega.{arith}
-use mathlib.Core.Path.{◌≡◌, sym, ap, ◌∙◌}
+use mathlib.Core.Path.{◌≡◌, sym, ◌∙◌}
 use mathlib.Core.Bool.{true≢false}
-use lib.ListN.{length}
 use lib.Seq.{length-take-le}
-use borrow.Author.Tests.{eq-eqb, eqb-true}
 use Rattle.chart.specs.Limits.{longest}
 use Rattle.holder_memory.specs.Layout.{arrays, work_at}
-use Rattle.holder_images.proofs.WholeLaws.{own_is, traced-count, anchor-fits, found-whole, found-other, found_none, miscounted, busy}
+use Rattle.holder_images.proofs.WholeLaws.{own_is, traced-count, anchor-fits, found-whole, found-other, found_none, busy}
 use Rattle.holder_images.proofs.WholeLaws.{holds-nothing, holds-damaged, holds-idle, holds-whole}
 use Rattle.holder_images.proofs.find.Goals as goal
 
@@ -17,15 +15,6 @@ returns-then-word-eq0 c = λ own. holds-nothing _ _ _ _ c.if-word-eq0.true
 
 pub returns-then-slot-ge-SLOTS : goal.returns-then-slot-ge-SLOTS
 returns-then-slot-ge-SLOTS c = λ own. holds-idle _ _ _ _ c.if-word-eq0.false _ c.slot_of-slot.ensures c.if-slot-ge-SLOTS.true
-
-pub returns-then-not-counted : goal.returns-then-not-counted
-returns-then-not-counted c = λ own.
-    let list = c.edges_at-list.ensures c.args.rows.now in
-    holds-damaged _ _ _ _ c.if-word-eq0.false c.slot_of-slot.result c.slot_of-slot.ensures
-    (miscounted _
-    (λ e. true≢false
-    (sym (c.counted.ensures c.args.rows.now c.args.numbers.now ∙ eq-eqb _ _ (e ∙ sym (ap length list)))
-    ∙ c.if-not-counted.true)))
 
 pub slice_bounds-same_rows-end : goal.slice_bounds-same_rows-end
 slice_bounds-same_rows-end c =
@@ -58,11 +47,9 @@ returns-then-same_rows c = λ own.
     let said = c.border-traced.ensures in
     let n = c.in-Written.n in
     let e = c.in-Written.is in
-    let count =
-    eqb-true _ _ (sym (c.counted.ensures s.rows.now s.numbers.now) ∙ c.if-not-counted.false) ∙ ap length ee in
     holds-whole h _ _ after c.if-word-eq0.false slot c.slot_of-slot.ensures _ n
     (found-whole work _ _ ea ee s.letters.now after c.requires.5 _ said.answer said.outline n e
-    (busy h s.p s.k after c.if-word-eq0.false slot c.slot_of-slot.ensures c.if-slot-ge-SLOTS.false) count
+    (busy h s.p s.k after c.if-word-eq0.false slot c.slot_of-slot.ensures c.if-slot-ge-SLOTS.false)
     (c.same_rows.ensures.0 c.if-same_rows.true))
     (own_is work _ _ ea ee s.letters.now after c.requires.5 _ said.answer said.outline n e)
     (traced-count work _ _ ea ee s.letters.now after c.requires.5 _ said.answer said.outline n e)

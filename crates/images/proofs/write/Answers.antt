@@ -1,8 +1,7 @@
 -- The record and the zeros are written, then the checksum of them.
-use Prim.Native.Nat.{◌-◌}
 use native.Mathlib.Omega.{arith}
 use mathlib.Core.Path.{sym}
-use lib.ListN.{length, length-set}
+use lib.ListN.{length-set}
 use Rattle.chart.specs.Outline.{at, outline}
 use lib.Seq.{length-take-le}
 use Rattle.images.proofs.Images.{written-image}
