@@ -1,9 +1,9 @@
 /*
- * Damage. Every single bit of what is at work at a place, its word included: a check notices it. Every other bit of the heads, and bits
- * behind the counted edges: a check notices it, or no answer changes. Every single bit of a pile's layer: a save notices it, or the layer
- * now has the rows of another outline, which a layer that keeps rows cannot tell, and the save is of these. Every single bit of an image,
- * images of other lengths, and many random damages of two and three bits and within 32 bits: refused, with nothing altered. The status is
- * 1 where one of these fails.
+ * Damage. Every single bit of what is at work at a place, its word included: a check notices it. Every other bit of the heads, bits
+ * behind the counted edges, and a count of 100 edges that is made larger, which is read as 100: a check notices it, or no answer changes.
+ * Every single bit of a pile's layer: a save notices it, or the layer now has the rows of another outline, which a layer that keeps rows
+ * cannot tell, and the save is of these. Every single bit of an image, images of other lengths, and many random damages of two and three
+ * bits and within 32 bits: refused, with nothing altered. The status is 1 where one of these fails.
  *
  * The numbers of the command line: a seed, and how many random damages of images are tried in all; 0 tries 20,000.
  */
@@ -181,7 +181,9 @@ static void damage_place(uint8_t party, uint8_t place) {
     for (uint32_t bit = 0; bit < 16 * RQ_HOLDER_HEADS; bit++) {
         const uint32_t head = bit / 16;
         flip_number(holder.heads, bit);
-        look_at(party, place, head == own || (head >= first && head < first + RQ_SLOT_NUMBERS), "a bit of the heads", bit);
+        const bool read_as_before = head == first + 2 && edges == RQ_EDGE_NUMBERS / 2 && holder.heads[head] > edges;
+        const bool in_slot = head >= first && head < first + RQ_SLOT_NUMBERS;
+        look_at(party, place, head == own || (in_slot && !read_as_before), "a bit of the heads", bit);
         flip_number(holder.heads, bit);
     }
     if (!same_bytes(&holder, &sound, sizeof holder)) wrong("a check that alters", place);

@@ -5,6 +5,7 @@ ghost use Rattle.border_model.specs.Traced.{traced_fields};
 use crate::Traced;
 use chart::{Fields, reply};
 
+#[tactic(auto, unfolding(crate::specs::Traced::traced_fields))]
 pub fn of_traced(t: Traced) -> Fields
     ensures { result ≡ traced_fields t }
 {

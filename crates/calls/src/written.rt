@@ -8,6 +8,7 @@ use chart::reply::NUMBERS;
 use chart::{Fields, Point, reply};
 
 // The piece in a reply to a piece call. Any other reply has none.
+#[tactic(auto, unfolding(crate::specs::Replies::piece_in))]
 pub fn piece_in(r: Reply) -> Piece
     ensures { result ≡ piece_in r }
 {
@@ -19,6 +20,7 @@ pub fn piece_in(r: Reply) -> Piece
 }
 
 // A piece in seven numbers: its word and, for a move or a line, the cell.
+#[tactic(auto, unfolding(crate::specs::Replies::piece_fields))]
 fn of_piece(piece: Piece, cell: Point) -> Fields
     ensures { result ≡ piece_fields piece cell }
 {
@@ -30,6 +32,7 @@ fn of_piece(piece: Piece, cell: Point) -> Fields
     }
 }
 
+#[tactic(auto, unfolding(crate::specs::Replies::reply_fields))]
 pub fn of_reply(r: Reply) -> Fields
     ensures { result ≡ reply_fields r }
 {
@@ -62,6 +65,7 @@ pub fn put(r: Reply, numbers: &mut [u16; NUMBERS])
 }
 
 // Writes a reply whose commonest answers have no fields. Those are few, so that a compiler writes them where they are found.
+#[tactic(auto, unfolding(crate::specs::Replies::reply_fields))]
 pub fn put_word(r: Reply, numbers: &mut [u16; NUMBERS])
     ensures { numbers.new ≡ numbers_of (reply_fields r) }
 {
@@ -74,6 +78,7 @@ pub fn put_word(r: Reply, numbers: &mut [u16; NUMBERS])
 }
 
 // Writes the reply of a row, whose commonest answers are its columns, or that it has none.
+#[tactic(auto, unfolding(crate::specs::Replies::reply_fields))]
 pub fn put_columns(r: Reply, numbers: &mut [u16; NUMBERS])
     ensures { numbers.new ≡ numbers_of (reply_fields r) }
 {

@@ -21,7 +21,7 @@ use Rattle.nesting.specs.Answer.{by_tests, nesting}
 use Rattle.sweep.specs.parts.Sweep.{row_from, row_to}
 use Rattle.sweep.specs.parts.Tests.{run_within, runs_meet, rows_within, rows_apart}
 use Rattle.sweep.proofs.Tests.{nesting-by-rows, nesting-self}
-use Rattle.comparison.specs.declared.rows.Tests.{Tests}
+use Rattle.comparison.specs.declared.row_walk.Tests.{Tests}
 use Rattle.comparison.specs.parts.Rows.{Swept, tests_of, compared_to, compared}
 
 -- Tests that agree below a bound

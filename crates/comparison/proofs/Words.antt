@@ -101,5 +101,5 @@ module _ (f : Fields) (first second : Bor (List ℤ)) where
   pub returned-two : f.piece ≡ 2 → ReturnedList f second first second
   returned-two e = record { one = λ h. absurd (omega arith); two = λ h. refl; neither = λ h. absurd (omega arith) }
 
-  pub returned-neither : (list : Bor (List ℤ)) → f.piece ≡ 0 → list.ref_ptr ≡ first.ptr → list.now ≡ [] → ReturnedList f list first second
+  pub returned-neither : (list : Bor (List ℤ)) → f.piece ≡ 0 → list.ref_ptr ≡ first.ref_ptr → list.now ≡ [] → ReturnedList f list first second
   returned-neither list e p q = record { one = λ h. absurd (omega arith); two = λ h. absurd (omega arith); neither = λ h. (p, q) }

@@ -14,9 +14,9 @@ ghost use Rattle.comparison.specs.Compared.{checked_of, comparison_of, CellsName
 use chart::reply::{NUMBERS, of_comparison, write};
 use chart::{Comparison, Nesting, Point, Refusal};
 use equality::{same_numbers, same_point};
-use rows::Tests;
+use row_walk::Tests;
 
-mod rows;
+mod row_walk;
 
 // 11 of a list: some corner cell is off the chart.
 fn leaves_chart(anchor: Point, edges: &[i16]) -> bool
@@ -94,7 +94,7 @@ fn nest(anchor: Point, edges: &[i16], other: Point, others: &[i16]) -> Nesting
     if same_lists(anchor, edges, other, others) {
         return Nesting::Equal;
     }
-    by_rows(rows::test_rows(anchor, edges, other, others))
+    by_rows(row_walk::test_rows(anchor, edges, other, others))
 }
 
 // The refusals of the first list, then of the second, and otherwise how the cells in their hulls lie.
@@ -120,6 +120,7 @@ enum Returned {
 }
 
 // The inner one's list: the first if both are equal, and none if neither lies within the other or a list is refused.
+#[tactic(auto, unfolding(crate::specs::Compared::returned_by, crate::specs::Compared::returned_with))]
 fn inner(comparison: Comparison) -> Returned
     ensures { result ≡ returned_by comparison }
 {

@@ -5,6 +5,7 @@ ghost use Rattle.completion_call.specs.Completion.{completed_fields};
 use crate::Completed;
 use chart::{Fields, reply};
 
+#[tactic(auto, unfolding(crate::specs::Completion::completed_fields))]
 pub fn of_completed(c: Completed) -> Fields
     ensures { result ≡ completed_fields c }
 {

@@ -78,10 +78,10 @@ lies-next (suc (suc (suc k))) e h = record { counted = omega arith }
 
 -- The step of e earlier letters and l later ones
 abbrev pub step_cols : Frame → ℕ → ℕ → ℤ
-step_cols f e l = pos e *ℤ f.earlier-cols +ℤ pos l *ℤ f.later-cols
+step_cols f e l = pos e *ℤ f.earlier_cols +ℤ pos l *ℤ f.later_cols
 
 abbrev pub step_rows : Frame → ℕ → ℕ → ℤ
-step_rows f e l = pos e *ℤ f.earlier-rows +ℤ pos l *ℤ f.later_rows
+step_rows f e l = pos e *ℤ f.earlier_rows +ℤ pos l *ℤ f.later_rows
 
 step_is : (u v : ℤ) (e l : ℕ) → Is (pos e *ℤ u +ℤ pos l *ℤ v) (e * up u + l * up v) (e * down u + l * down v)
 step_is u v e l = record { eq = omega (arith, (is-add (is_mul (is-self (pos e)) (is-self u)) (is_mul (is-self (pos l)) (is-self v))).eq) }
@@ -89,14 +89,14 @@ step_is u v e l = record { eq = omega (arith, (is-add (is_mul (is-self (pos e)) 
 pub step-lies : (k e l : ℕ) → Lies k 0 e l (step_cols (frame_of k) e l) (step_rows (frame_of k) e l)
 unfolding Counted frame_of
 step-lies k e l =
-    go k (step_is (frame_of k).earlier-cols (frame_of k).later-cols e l) (step_is (frame_of k).earlier-rows (frame_of k).later_rows e l)
+    go k (step_is (frame_of k).earlier_cols (frame_of k).later_cols e l) (step_is (frame_of k).earlier_rows (frame_of k).later_rows e l)
   where
     go :
         (k : ℕ) {x y : ℤ}
-        → Is x (e * up (frame_of k).earlier-cols + l * up (frame_of k).later-cols)
-        (e * down (frame_of k).earlier-cols + l * down (frame_of k).later-cols)
-        → Is y (e * up (frame_of k).earlier-rows + l * up (frame_of k).later_rows)
-        (e * down (frame_of k).earlier-rows + l * down (frame_of k).later_rows)
+        → Is x (e * up (frame_of k).earlier_cols + l * up (frame_of k).later_cols)
+        (e * down (frame_of k).earlier_cols + l * down (frame_of k).later_cols)
+        → Is y (e * up (frame_of k).earlier_rows + l * up (frame_of k).later_rows)
+        (e * down (frame_of k).earlier_rows + l * down (frame_of k).later_rows)
         → Lies k 0 e l x y
     go zero c r = record { counted = omega arith }
     go (suc zero) c r = record { counted = omega arith }

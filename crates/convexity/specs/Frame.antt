@@ -7,20 +7,20 @@ use Rattle.chart.specs.declared.Point.{Point}
 pub record Frame : Type 0 where
   pub earlier : ℕ
   pub later : ℕ
-  pub earlier-cols : ℤ
-  pub earlier-rows : ℤ
-  pub later-cols : ℤ
+  pub earlier_cols : ℤ
+  pub earlier_rows : ℤ
+  pub later_cols : ℤ
   pub later_rows : ℤ
 
 -- The frames of pieces 1 to 4, counted here from 0
 unfoldable pub frame_of : ℕ → Frame
-frame_of zero = record { earlier = 0; later = 1; earlier-cols = pos 1; earlier-rows = pos 0; later-cols = pos 0; later_rows = pos 1 }
+frame_of zero = record { earlier = 0; later = 1; earlier_cols = pos 1; earlier_rows = pos 0; later_cols = pos 0; later_rows = pos 1 }
 frame_of (suc zero) =
-    record { earlier = 3; later = 0; earlier-cols = pos 0; earlier-rows = negsuc 0; later-cols = pos 1; later_rows = pos 0 }
+    record { earlier = 3; later = 0; earlier_cols = pos 0; earlier_rows = negsuc 0; later_cols = pos 1; later_rows = pos 0 }
 frame_of (suc (suc zero)) =
-    record { earlier = 2; later = 3; earlier-cols = negsuc 0; earlier-rows = pos 0; later-cols = pos 0; later_rows = negsuc 0 }
+    record { earlier = 2; later = 3; earlier_cols = negsuc 0; earlier_rows = pos 0; later_cols = pos 0; later_rows = negsuc 0 }
 frame_of (suc (suc (suc k))) =
-    record { earlier = 1; later = 2; earlier-cols = pos 0; earlier-rows = pos 1; later-cols = negsuc 0; later_rows = pos 0 }
+    record { earlier = 1; later = 2; earlier_cols = pos 0; earlier_rows = pos 1; later_cols = negsuc 0; later_rows = pos 0 }
 
 -- The piece after piece k, cyclically
 abbrev pub next : ℕ → ℕ

@@ -55,8 +55,8 @@ dent_piece o = first (λ k. ltb 0 (dent_length (factors o k))) 4
 unfoldable pub edges_of : Frame → List Factor → List ℤ
 edges_of f [] = []
 edges_of f (g ∷ gs) =
-    (pos (g.times * earliers g.word) *ℤ f.earlier-cols +ℤ pos (g.times * laters g.word) *ℤ f.later-cols) ∷
-    (pos (g.times * earliers g.word) *ℤ f.earlier-rows +ℤ pos (g.times * laters g.word) *ℤ f.later_rows) ∷ edges_of f gs
+    (pos (g.times * earliers g.word) *ℤ f.earlier_cols +ℤ pos (g.times * laters g.word) *ℤ f.later_cols) ∷
+    (pos (g.times * earliers g.word) *ℤ f.earlier_rows +ℤ pos (g.times * laters g.word) *ℤ f.later_rows) ∷ edges_of f gs
 
 -- The edges of pieces 1 to 4 in this order, and their count
 unfoldable pub edges : Outline → List ℤ

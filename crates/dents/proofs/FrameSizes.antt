@@ -12,35 +12,35 @@ use Rattle.pieces.specs.parts.Pieces.{PairOf}
 use Rattle.base.proofs.Sizes.{fits-size}
 
 pub record Units (f : Frame) : Type 0 where
-  pub earlier-cols : nat_abs f.earlier-cols ≤ 1
-  pub earlier-rows : nat_abs f.earlier-rows ≤ 1
-  pub later-cols : nat_abs f.later-cols ≤ 1
+  pub earlier_cols : nat_abs f.earlier_cols ≤ 1
+  pub earlier_rows : nat_abs f.earlier_rows ≤ 1
+  pub later_cols : nat_abs f.later_cols ≤ 1
   pub later_rows : nat_abs f.later_rows ≤ 1
 
 pub frame-units : (k : ℕ) → Units (frame_of k)
 unfolding frame_of
-frame-units zero = record { earlier-cols = omega arith; earlier-rows = omega arith; later-cols = omega arith; later_rows = omega arith }
+frame-units zero = record { earlier_cols = omega arith; earlier_rows = omega arith; later_cols = omega arith; later_rows = omega arith }
 frame-units (suc zero) =
-    record { earlier-cols = omega arith; earlier-rows = omega arith; later-cols = omega arith; later_rows = omega arith }
+    record { earlier_cols = omega arith; earlier_rows = omega arith; later_cols = omega arith; later_rows = omega arith }
 frame-units (suc (suc zero)) =
-    record { earlier-cols = omega arith; earlier-rows = omega arith; later-cols = omega arith; later_rows = omega arith }
+    record { earlier_cols = omega arith; earlier_rows = omega arith; later_cols = omega arith; later_rows = omega arith }
 frame-units (suc (suc (suc k))) =
-    record { earlier-cols = omega arith; earlier-rows = omega arith; later-cols = omega arith; later_rows = omega arith }
+    record { earlier_cols = omega arith; earlier_rows = omega arith; later_cols = omega arith; later_rows = omega arith }
 
 unit-read : {a b : ℤ} → a ≡ b → nat_abs b ≤ 1 → to_z w16 (of_z w16 a) ≡ b
 unit-read {a} {b} e h = to_z-of_z w16 a (rw e (fits-size w16 b (omega arith))) ∙ e
 
 pub record Read (f : Frame) (p : Pair) : Type 0 where
-  pub earlier-cols : to_z w16 (of_z w16 p.earlier_cols) ≡ f.earlier-cols
-  pub earlier-rows : to_z w16 (of_z w16 p.earlier_rows) ≡ f.earlier-rows
-  pub later-cols : to_z w16 (of_z w16 p.later_cols) ≡ f.later-cols
+  pub earlier_cols : to_z w16 (of_z w16 p.earlier_cols) ≡ f.earlier_cols
+  pub earlier_rows : to_z w16 (of_z w16 p.earlier_rows) ≡ f.earlier_rows
+  pub later_cols : to_z w16 (of_z w16 p.later_cols) ≡ f.later_cols
   pub later_rows : to_z w16 (of_z w16 p.later_rows) ≡ f.later_rows
 
 pub pair_read : (k : ℕ) {p : Pair} → PairOf (frame_of k) p → Read (frame_of k) p
 pair_read k h =
     record {
-      earlier-cols = unit-read h.earlier-cols (frame-units k).earlier-cols;
-      earlier-rows = unit-read h.earlier-rows (frame-units k).earlier-rows;
-      later-cols = unit-read h.later-cols (frame-units k).later-cols;
+      earlier_cols = unit-read h.earlier_cols (frame-units k).earlier_cols;
+      earlier_rows = unit-read h.earlier_rows (frame-units k).earlier_rows;
+      later_cols = unit-read h.later_cols (frame-units k).later_cols;
       later_rows = unit-read h.later_rows (frame-units k).later_rows;
     }

@@ -44,11 +44,13 @@ pub data Leaves : List Edge → ℤ → ℤ → ℤ → ℤ → ℤ → ℤ → 
   later : {es fs : List Edge} {dx dy x y ex ey p q : ℤ} → Leaves es (x +ℤ dx) (y +ℤ dy) ex ey p q fs
       → Leaves ((dx, dy) ∷ es) x y ex ey p q fs
 
-leaves_after : {es fs : List Edge} {x y dx dy ex ey p q : ℤ} → AllAfter dx dy es → Leaves es x y ex ey p q fs → Sooner dx dy ex ey
+leaves_after : {dx dy : ℤ} {es fs : List Edge} {x y ex ey p q : ℤ} → AllAfter dx dy es → Leaves es x y ex ey p q fs → Sooner dx dy ex ey
+leaves_after none l = elim l [ ]
 leaves_after (next b a) first = b
 leaves_after (next b a) (later l) = leaves_after a l
 
 leaves-facing : {es fs : List Edge} {x y ex ey p q : ℤ} → Rising es → Leaves es x y ex ey p q fs → Facing ex ey
+leaves-facing none l = elim l [ ]
 leaves-facing (next f a r) first = f
 leaves-facing (next f a r) (later l) = leaves-facing r l
 
@@ -65,7 +67,7 @@ module _ (ex ey p q : ℤ) where
 
   -- After the edge: once a cross product is not above 0, side values decrease to that of the end
   after-down :
-      {es : List Edge} {x y u v s t fx fy : ℤ} → Sooner ex ey fx fy → Most0 (With fx fy) → AllAfter fx fy es → Ends es x y s t
+      {fx fy : ℤ} {es : List Edge} {x y u v s t : ℤ} → Sooner ex ey fx fy → Most0 (With fx fy) → AllAfter fx fy es → Ends es x y s t
       → Least0 (Side s t)
       → Met es x y u v → Least0 (Side u v)
   after-down b l none none i start = i
@@ -96,13 +98,13 @@ module _ (ex ey p q : ℤ) where
 
   -- Before the edge: once a cross product is not above 0, side values decrease to 0, the edge's own
   before-down :
-      {es fs : List Edge} {x y u v s t fx fy : ℤ} → Most0 (With fx fy) → AllAfter fx fy es → Rising es → Leaves es x y ex ey p q fs
+      {es fs : List Edge} {x y u v s t fx fy : ℤ} → Leaves es x y ex ey p q fs → Most0 (With fx fy) → AllAfter fx fy es → Rising es
       → Ends es x y s t → Least0 (Side s t) → Met es x y u v → Least0 (Side u v)
-  before-down l c r first w i start = omega (arith, (side-start ex ey p q).eq)
-  before-down l c (next f a r) first (next w) i (after m) = from-edge a r w i m
-  before-down {x = x} {y = y} l (next {ex = gx} {ey = gy} h c) (next f a r) (later g) (next w) i start =
-      omega (arith, (side-step ex ey p q x y gx gy).eq, falls-before h (leaves_after a g) l, before-down l c r g w i start)
-  before-down l (next h c) (next f a r) (later g) (next w) i (after m) = before-down l c r g w i m
+  before-down first l c r w i start = omega (arith, (side-start ex ey p q).eq)
+  before-down first l c (next f a r) (next w) i (after m) = from-edge a r w i m
+  before-down {x = x} {y = y} (later g) l (next {ex = gx} {ey = gy} h c) (next f a r) (next w) i start =
+      omega (arith, (side-step ex ey p q x y gx gy).eq, falls-before h (leaves_after a g) l, before-down g l c r w i start)
+  before-down (later g) l (next h c) (next f a r) (next w) i (after m) = before-down g l c r w i m
 
   -- The whole walk: side values go up and then down to the edge, and from it up and then down to the end
   round :
@@ -113,7 +115,7 @@ module _ (ex ey p q : ℤ) where
   round {x = x} {y = y} (next {dx = gx} {dy = gy} f a r) (later g) (next w) i j (after m) =
       elim (dec_le (down (With gx gy)) (up (With gx gy))) [
         | yes k ↦ round r g w i (omega (arith, (side-step ex ey p q x y gx gy).eq)) m
-        | no k ↦ before-down (omega arith) a r g w i m
+        | no k ↦ before-down g (omega arith) a r w i m
       ]
 
   -- A forward edge: side values decrease from the anchor to it
@@ -122,10 +124,10 @@ module _ (ex ey p q : ℤ) where
   ahead_step {dx} {dy} e (forwards d f h) = omega (arith, (cross-swap dx dy ex ey).eq)
   ahead_step e (backwards d b h) = absurd (both_ways e b)
 
-  ahead-anchor : {es fs : List Edge} {x y : ℤ} → Forward ex ey → Rising es → Leaves es x y ex ey p q fs → Least0 (Side x y)
-  ahead-anchor e r first = omega (arith, (side-start ex ey p q).eq)
-  ahead-anchor {x = x} {y = y} e (next {dx = gx} {dy = gy} f a r) (later g) =
-      omega (arith, (side-step ex ey p q x y gx gy).eq, ahead_step e (leaves_after a g), ahead-anchor e r g)
+  ahead-anchor : {es fs : List Edge} {x y : ℤ} → Forward ex ey → Leaves es x y ex ey p q fs → Rising es → Least0 (Side x y)
+  ahead-anchor e first r = omega (arith, (side-start ex ey p q).eq)
+  ahead-anchor {x = x} {y = y} e (later g) (next {dx = gx} {dy = gy} f a r) =
+      omega (arith, (side-step ex ey p q x y gx gy).eq, ahead_step e (leaves_after a g), ahead-anchor e g r)
 
   -- A backward edge: side values increase from it to the end
   back_step : {dx dy : ℤ} → Backward ex ey → Sooner ex ey dx dy → Above (With dx dy)
@@ -154,7 +156,7 @@ module _ (ex ey p q : ℤ) where
   anchor {x = x} {y = y} r g w = go (leaves-facing r g)
     where
       go : Facing ex ey → Least0 (Side x y)
-      go (ahead e) = ahead-anchor e r g
+      go (ahead e) = ahead-anchor e g r
       go (back e) = omega (arith, edge-end.eq, back_end e (leaves-rest g r) (leaves-end g w))
 
   -- strictly, if the edge is neither the first nor the last
@@ -169,7 +171,7 @@ module _ (ex ey p q : ℤ) where
           omega (arith, edge-end.eq, (side-step ex ey p q (p +ℤ ex) (q +ℤ ey) gx gy).eq, back_step e b, back_end e c v)
 
       go : Facing ex ey → Above (Side x y)
-      go (ahead e) = omega (arith, (side-step ex ey p q x y dx dy).eq, ahead_step e (leaves_after a g), ahead-anchor e r g)
+      go (ahead e) = omega (arith, (side-step ex ey p q x y dx dy).eq, ahead_step e (leaves_after a g), ahead-anchor e g r)
       go (back e) = rest e (leaves-rest g r) (leaves-end g w)
 
 -- Every corner cell is on the inner side of every edge

@@ -63,6 +63,7 @@ fn half(n: u16) -> f32
 }
 
 // A path command with its point.
+#[tactic(auto, unfolding(crate::specs::Points::piece_of))]
 fn piece_of(stroke: Stroke) -> Piece
     ensures { result ≡ piece_of stroke }
 {
@@ -75,6 +76,7 @@ fn piece_of(stroke: Stroke) -> Piece
 }
 
 // The cell of a move or a line. Any other command has (0, 0).
+#[tactic(auto, unfolding(crate::specs::Points::cell_in))]
 fn cell_in(stroke: Stroke) -> Point
     ensures { result ≡ cell_in stroke }
 {
@@ -109,6 +111,7 @@ fn write_pair(x: f32, y: f32, point: &mut [f32])
 }
 
 // Writes the point of a path command to the front of a buffer. A command without a point leaves the buffer unchanged.
+#[tactic(auto, unfolding(crate::specs::Points::point_after))]
 pub fn write_point(piece: Piece, point: &mut [f32])
     ensures { point.new ≡ point_after piece point.old }
 {

@@ -2,37 +2,67 @@
 // on standard error.
 #![tactic(auto)]
 
-use fitting_listing::{MOST, ROOM};
-use libc::{STDERR_FILENO, STDIN_FILENO, STDOUT_FILENO};
+ghost use Rattle.std.specs.Prelude.{◌≡◌, ◌≤◌, true, length, take};
+ghost use Rattle.std.specs.Io.KnownBytes.{Appends};
+ghost use Rattle.text_lines.specs.Text.{text_of};
+ghost use Rattle.fitting_listing.specs.Lines.{lines_of};
 
-// Lists a file in a buffer, and writes what was listed. Returns false where not all of it was written.
-fn write_listing(file: &[u8], text: &mut [u8]) -> bool {
+use fitting_listing::{MOST, ROOM};
+use std::io::{Read, Write};
+
+// Lists a file in a buffer, and writes what was listed. Returns false where not all of it was written. Where it returns true, the text of
+// the file's lines was written, as far as the buffer has room.
+fn write_listing<W: Write>(out: &mut W, file: &[u8], text: &mut [u8]) -> bool
+    ensures { result ≡ true → Appends (W.contents out.old) (W.contents out.new) (take (length text.old) (text_of (lines_of file.now))) }
+{
     let end = fitting_listing::list(file, text);
-    io::write_all(STDOUT_FILENO, &text[..end])
+    match out.write_all(&text[..end]) {
+        Ok(()) => true,
+        Err(_) => false,
+    }
+}
+
+// Reads until the buffer is full, the input ends or a read fails, and returns how many bytes it put at the start of the buffer.
+fn read_full(input: &mut impl Read, buffer: &mut [u8]) -> usize
+    ensures within { result ≤ length buffer.new }
+    ensures prefix { result ≡ length (take result buffer.new) }
+{
+    let mut done = 0;
+    while done < buffer.len() {
+        match input.read(&mut buffer[done..]) {
+            Ok(0) => return done,
+            Ok(more) => done += more,
+            Err(_) => return done,
+        }
+    }
+    done
 }
 
 // Whether the input has ended: one more read finds nothing, and does not fail.
-fn ended() -> bool {
+fn ended(input: &mut impl Read) -> bool {
     let mut more = [0u8; 1];
-    let got = libc::read(STDIN_FILENO, &mut more);
-    got == 0
+    match input.read(&mut more) {
+        Ok(got) => got == 0,
+        Err(_) => false,
+    }
 }
 
 // One byte past the longest file tells that it is too long; nothing behind it matters. A shorter input must have ended.
-fn main() {
+fn main(rt: HostRuntime) {
     let mut file = [0u8; MOST + 1];
     let mut text = [0u8; ROOM];
-    let read = io::read_full(STDIN_FILENO, &mut file);
+    let mut input = rt.stdin();
+    let read = read_full(&mut input, &mut file);
     let mut whole = true;
     if read <= MOST {
-        whole = ended();
+        whole = ended(&mut input);
     }
     if whole {
-        let written = write_listing(&file[..read], &mut text);
+        let written = write_listing(&mut rt.stdout(), &file[..read], &mut text);
         if !written {
-            io::write_all(STDERR_FILENO, b"fittings: the listing cannot be written\n");
+            let _ = eprintln!(rt; "fittings: the listing cannot be written");
         }
     } else {
-        io::write_all(STDERR_FILENO, b"fittings: the input cannot be read\n");
+        let _ = eprintln!(rt; "fittings: the input cannot be read");
     }
 }

@@ -1,5 +1,5 @@
 -- A work that some taking leaves is the work of its own border, so the border that its edges give decides.
-use Prim.Native.Nat.{ℕ, ◌*◌, ◌≤◌, ◌<◌}
+use Prim.Native.Nat.{ℕ, ◌≤◌, ◌<◌}
 use native.Mathlib.Omega.{arith}
 use mathlib.Core.Path.{◌≡◌, refl, sym, ap, ap₂, subst, ◌∙◌}
 use mathlib.Core.Logic.{◌↔◌}
@@ -7,8 +7,8 @@ use mathlib.Core.Bool.{Bool, true, false, ◌&&◌, and-eq-true_iff}
 use mathlib.Core.List.{List}
 use lib.ListN.{length, take}
 use lib.IntN.{ℤ}
-use lib.Dec.{leb, eqb}
-use borrow.Author.Tests.{leb-false, le-ltb, lt-ltb, eq-eqb, ne_eqb, eqb-true}
+use lib.Dec.{leb}
+use borrow.Author.Tests.{leb-false, le-ltb, lt-ltb, eq-eqb, ne_eqb}
 use Rattle.base.proofs.BelowLaws.{not-held, or-false-iff}
 use Rattle.chart.specs.Limits.{side, longest}
 use Rattle.chart.specs.declared.Point.{Point}
@@ -62,7 +62,6 @@ own-work w o k =
     let g : HasEdges (own_border w) w.anchor (work_edges w) = border-has h in
     record {
       taken = has-taken g;
-      counted = k.counted;
       rows = k.rows ∙ same-border o (own_border w) h.reaches g.reaches (border-form h ∙ sym (border-form g));
     }
 
@@ -72,28 +71,20 @@ unfolding whole
 whole-iff w =
     let a : Bool = outlined w.anchor (work_edges w) in
     let b : Bool = same_spans w.spans (spans_of (own_border w)) in
-    let n : Bool = eqb (2 * w.edges) (length (work_edges w)) in
-    let outer = and-eq-true_iff w.taken (n && (a && b)) in
-    let middle = and-eq-true_iff n (a && b) in
+    let outer = and-eq-true_iff w.taken (a && b) in
     let inner = and-eq-true_iff a b in
     let rows = same-spans-iff w.spans (spans_of (own_border w)) in (
       λ e.
-          let m = middle.0 (outer.0 e).1 in
-          let i = inner.0 m.1 in
-          let count : 2 * w.edges ≡ length (work_edges w) = eqb-true _ _ m.0 in
-          ((outer.0 e).0, (own_border w, record { taken = own-taken i.0; counted = count; rows = rows.0 i.1 })),
+          let i = inner.0 (outer.0 e).1 in
+          ((outer.0 e).0, (own_border w, record { taken = own-taken i.0; rows = rows.0 i.1 })),
       λ h.
           let o : Outline = h.1.0 in
           let k : WorkOf w o = h.1.1 in
-          let i = inner.1 ((outlined-iff w.anchor (work_edges w)).1 (o, k.taken), rows.1 (own-work w o k).rows) in
-          outer.1 (h.0, middle.1 (eq-eqb _ _ k.counted, i)),
+          outer.1 (h.0, inner.1 ((outlined-iff w.anchor (work_edges w)).1 (o, k.taken), rows.1 (own-work w o k).rows)),
     )
   where
     own-taken : outlined w.anchor (work_edges w) ≡ true → TakenAs (own_border w) w.anchor (work_edges w)
     own-taken e = unfold own_border in (outlined-border w.anchor (work_edges w) e).taken
-
-pub miscounted : (w : Work) → (2 * w.edges ≡ length (work_edges w) → ⊥) → whole w ≡ false
-miscounted w n = not-held (whole w) (λ y. n ((whole-iff w).0 y).1.1.counted)
 
 -- ---- what a border call says
 
@@ -135,10 +126,9 @@ module _ (w : Work) (a : Point) (es : List ℤ) (ea : a ≡ w.anchor) (ee : es �
         let both = (or-false-iff (leb side a.col) (leb side a.row)).0 b in
         (leb-false side a.col both.0, leb-false side a.row both.1)
 
-    pub found-whole : w.taken ≡ true → 2 * w.edges ≡ length (work_edges w) → w.spans ≡ spans_of (outline a (take n after)) → whole w ≡ true
-    found-whole busy count same =
-        (whole-iff w).1
-        (busy, (outline a (take n after), record { taken = to-work _ traced-border.taken; counted = count; rows = same }))
+    pub found-whole : w.taken ≡ true → w.spans ≡ spans_of (outline a (take n after)) → whole w ≡ true
+    found-whole busy same =
+        (whole-iff w).1 (busy, (outline a (take n after), record { taken = to-work _ traced-border.taken; rows = same }))
 
     pub found-other : (w.spans ≡ spans_of (outline a (take n after)) → ⊥) → whole w ≡ false
     found-other differ =

@@ -1,5 +1,5 @@
 -- Whether what is at work is what a taking leaves (contract 13.4).
-use Rattle.std.specs.Prelude.{ℕ, ◌*◌, ◌≡◌, ◌⊎◌, Bool, true, cond, ◌&&◌, ◌||◌, [], length, get_or, eqb}
+use Rattle.std.specs.Prelude.{ℕ, ◌≡◌, ◌⊎◌, Bool, true, cond, ◌&&◌, ◌||◌, [], get_or, eqb}
 use Rattle.chart.specs.Outline.{Outline, at, outline}
 use Rattle.convexity.specs.FromEdges.{letters_from}
 use Rattle.spans.specs.declared.Spans.{Spans}
@@ -16,11 +16,9 @@ same_spans x y = same_bytes x.first y.first && same_bytes x.past y.past
 
 -- ---- a work
 
--- The test takes the outline with this anchor and these edges, the count is theirs, and its rows are these. (A count above 100 is read as
--- 100, so the edges that are read do not tell it)
+-- The test takes the outline with this anchor and these edges, as many as are counted, and its rows are these
 pub record WorkOf (w : Work) (o : Outline) : Type 0 where
   pub taken : TakenAs o w.anchor (work_edges w)
-  pub counted : 2 * w.edges ≡ length (work_edges w)
   pub rows : w.spans ≡ spans_of o
 
 -- The border that the edges at work give, from the anchor's corner
@@ -30,10 +28,7 @@ own_border w = outline w.anchor (letters_from (work_edges w))
 -- Tests whether an outline is at work, and some taking leaves it. It is enough to test the border that its edges give
 -- (proofs/WholeLaws: `whole-iff`)
 unfoldable pub whole : Work → Bool
-whole w =
-    w.taken &&
-    (eqb (2 * w.edges) (length (work_edges w)) &&
-    (outlined w.anchor (work_edges w) && same_spans w.spans (spans_of (own_border w))))
+whole w = w.taken && (outlined w.anchor (work_edges w) && same_spans w.spans (spans_of (own_border w)))
 
 -- ---- a place
 

@@ -1,14 +1,14 @@
 // A place of a holder: whether it is whole, its image, and an outline from an image (contract 13.4 to 13.6).
 #![tactic(auto)]
 
-ghost use Rattle.std.specs.Prelude.{◌≡◌, ◌↔◌, true, List, ℕ, ◌+◌, ◌*◌, ◌<◌, ◌≤◌, length, ℤ, eqb};
+ghost use Rattle.std.specs.Prelude.{◌≡◌, ◌↔◌, true, List, ℕ, ◌+◌, ◌<◌, ◌≤◌, length};
 ghost use Rattle.chart.specs.Limits.{side, longest};
 ghost use Rattle.chart.specs.Outline.{outline};
 ghost use Rattle.calls.specs.Calls.{parties, places};
 ghost use Rattle.spans.specs.Spans.{spans_of};
 ghost use Rattle.windows.specs.Windows.{window};
 ghost use Rattle.span_list.specs.SpanList.{spans_at};
-ghost use Rattle.holder_memory.specs.Layout.{arrays, work_at, slots, row_bytes, edge_numbers, head_numbers};
+ghost use Rattle.holder_memory.specs.Layout.{arrays, slots, row_bytes, edge_numbers, head_numbers};
 ghost use Rattle.holder_answers.specs.Arrays.{preparation, reply};
 ghost use Rattle.holder_images.specs.Arrays.{check_of, saved, save_of, prepare_image_of, restore_of};
 ghost use Rattle.holder_images.specs.parts.Found.{Holds};
@@ -18,9 +18,7 @@ use calls::{PARTIES, PLACES, Reply};
 use chart::{LONGEST, Point, Refusal};
 use holder_closes::{Prepared, commit, prepare_outline};
 use holder_memory::naming::slot_of;
-use holder_memory::{
-    HEADS, NUMBERS, PLACE_WORDS, ROW_BYTES, SLOT_HEADS, SLOT_NUMBERS, SLOTS, wide,
-};
+use holder_memory::{HEADS, NUMBERS, PLACE_WORDS, ROW_BYTES, SLOTS};
 use holder_works::{anchor_at, edges_at};
 use images::{Found, HEADER, IMAGE};
 use span_list::WIDTH;
@@ -63,16 +61,6 @@ fn same_rows(rows: &[u8], slot: usize, start: Point, letters: &[u8]) -> bool
     stands(&own.past, at + ROWS, rows)
 }
 
-// Whether the count of edges in a slot is that of the numbers read there. A count above 100 is read as 100, and is no count of theirs.
-fn counted(heads: &[u16], slot: usize, list: &[i16]) -> bool
-    requires { (slot < slots) × (length heads.now ≡ head_numbers) }
-    ensures { (rows : List ℕ) (numbers : List ℤ)
-        → result ≡ eqb (2 * (work_at rows numbers heads.now slot).edges) (length list.now) }
-{
-    let at = SLOT_HEADS + SLOT_NUMBERS * slot;
-    2 * wide(heads[at + 2]) == list.len()
-}
-
 // What a place holds, and the letters of its border.
 fn find(rows: &[u8], numbers: &[i16], heads: &[u16], p: usize, k: usize, letters: &mut [u8]) -> Held
     requires { (p < parties) × (k < places) × (length rows.now ≡ row_bytes) × (length numbers.now ≡ edge_numbers)
@@ -93,9 +81,6 @@ fn find(rows: &[u8], numbers: &[i16], heads: &[u16], p: usize, k: usize, letters
     }
     let anchor = anchor_at(heads, slot);
     let list = edges_at(numbers, heads, slot);
-    if !counted(heads, slot, list) {
-        return Held::Damaged;
-    }
     let traced = border::border(anchor, list, letters);
     match traced {
         Traced::Written { letters: n } => {

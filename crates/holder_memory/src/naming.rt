@@ -18,6 +18,7 @@ const WORD_3: u16 = 0x0F0F;
 const WORD_4: u16 = 0x5A5A;
 
 // The word of a party's slot.
+#[tactic(auto, unfolding(crate::specs::Words::word_of))]
 pub fn word_of(tag: usize) -> u16
     ensures { result ≡ word_of tag }
 {
@@ -31,6 +32,7 @@ pub fn word_of(tag: usize) -> u16
 }
 
 // Which of a party's slots a number names, or 5 for none.
+#[tactic(auto, unfolding(crate::specs::Words::tag_of))]
 fn tag_of(word: u16) -> usize
     ensures { result ≡ tag_of word }
 {

@@ -119,7 +119,7 @@ represents-fresh =
 handled-from : (h : Holder) (b : Book) → Represents h b → (cs : List Call) → handled_from h cs ≡ replies_from b cs
 unfolding handled_from replies_from
 handled-from h b r [] = refl
-handled-from h b r (c ∷ cs) = ap₂ ◌∷◌ (call-agrees h b r c).0 (handled-from _ _ (call-agrees h b r c).1 cs)
+handled-from h b r (c ∷ cs) = ap₂ ◌∷◌ (call-agrees h b r c).0 (handled-from (answer_of h c).holder _ (call-agrees h b r c).1 cs)
 
 -- For every list of calls of both parties, whatever their arguments, each reply of fresh arrays is the model's (contract 8.2)
 pub list-theorem : (cs : List Call) → handled cs ≡ replies cs
@@ -131,7 +131,7 @@ list-theorem cs = handled-from fresh_holder fresh represents-fresh cs
 represents-from : (h : Holder) (b : Book) → Represents h b → (cs : List Call) → Represents (holder_after h cs) (book_after b (map Entered cs))
 unfolding holder_after book_after
 represents-from h b k [] = k
-represents-from h b k (c ∷ cs) = represents-from _ _ (call-agrees h b k c).1 cs
+represents-from h b k (c ∷ cs) = represents-from (answer_of h c).holder _ (call-agrees h b k c).1 cs
 
 pub represents-after : (cs : List Call) → Represents (holder_after fresh_holder cs) (book_after fresh (map Entered cs))
 represents-after cs = represents-from fresh_holder fresh represents-fresh cs

@@ -40,12 +40,11 @@ use Rattle.holder_records.specs.Acts.{closed_reply}
 
 -- ---- the relation
 
--- A work with the anchor, the edges and their count of this outline, which was taken
+-- A work with the anchor and the edges of this outline, which was taken
 pub record Working (w : Work) (o : Outline) : Type 0 where
   pub taken : w.taken ≡ true
   pub anchor : w.anchor ≡ (border o).start
   pub edges : work_edges w ≡ edges (border o)
-  pub counted : 2 * w.edges ≡ length (work_edges w)
   pub spans : w.spans ≡ spans_of o
   pub reaches : Reaches o
   pub undented : dent_piece (border o) ≡ 4
@@ -68,14 +67,12 @@ module _ (o : Outline) (n : ℕ) (a : Point) (e : verdict_of o ≡ Taken n a) wh
   abbrev facts : TakenFacts o n a
   facts = taken-facts o n a e
 
-  size : length (edges (border o)) ≡ 2 * n
-  size = edges-length (border o) ∙ ap (λ (j : ℕ). 2 * j) (sym facts.count)
-
   listed-edges : listed (numbers_of o (Taken n a)) n ≡ edges (border o)
   unfolding listed buffer_after
   listed-edges =
       let all : min (2 * n) most_numbers ≡ 2 * n = omega (arith, taken-fits o n a e) in
       let es : List ℤ = edges (border o) in
+      let size : length es ≡ 2 * n = edges-length (border o) ∙ ap (λ (j : ℕ). 2 * j) (sym facts.count) in
       rw all (take_at es (drop (length es) (replicate most_numbers (pos 0))) (2 * n) size)
 
   -- The work that it becomes
@@ -86,7 +83,6 @@ module _ (o : Outline) (n : ℕ) (a : Point) (e : verdict_of o ≡ Taken n a) wh
         taken = refl;
         anchor = facts.anchor;
         edges = listed-edges;
-        counted = sym (ap length listed-edges ∙ size);
         spans = refl;
         reaches = facts.reaches;
         undented = facts.undented;

@@ -213,6 +213,10 @@ module _ (p : ℕ) where
   made-turns h n t (Drew q k i point point' reply) (drew d e) = (more-own t (piece_call q k i), more-others t (piece_call q k i))
   made-turns h n t (Sent bytes reply reply' r) (sent m) = sent-next t (decoded bytes)
   made-turns h n t (Drafted q reply) (drafted e) = (λ f. refl, λ f. refl)
+  made-turns h n t (Began _ _ _) m = elim m [ ]
+  made-turns h n t (RestoreBegan _ _ _ _) m = elim m [ ]
+  made-turns h n t (Ended _ _) m = elim m [ ]
+  made-turns h n t (Cut _ _) m = elim m [ ]
 
   begins-turns : (xs : List Entry) (q k : ℕ) (reply : List ℕ) → Turns (After xs) (Began q k reply)
   unfolding is_own next own seen
@@ -282,6 +286,14 @@ module _ (p : ℕ) where
   shape-kept h n s t (closing d c) (Sent bytes reply reply' r) a m = closing d c
   shape-kept h n s t (closing d c) (Drafted q reply) a m = closing d c
   shape-kept h n s t (closing d c) Fresh a m = absurd (true≢false (sym a))
+  shape-kept h n s t idle (Began _ _ _) a m = elim m [ ]
+  shape-kept h n s t idle (RestoreBegan _ _ _ _) a m = elim m [ ]
+  shape-kept h n s t idle (Ended _ _) a m = elim m [ ]
+  shape-kept h n s t idle (Cut _ _) a m = elim m [ ]
+  shape-kept h n s t (closing d c) (Began _ _ _) a m = elim m [ ]
+  shape-kept h n s t (closing d c) (RestoreBegan _ _ _ _) a m = elim m [ ]
+  shape-kept h n s t (closing d c) (Ended _ _) a m = elim m [ ]
+  shape-kept h n s t (closing d c) (Cut _ _) a m = elim m [ ]
 
   waits : (xs : List Entry) (q k w : ℕ) (bytes : List ℕ) (u : Bool)
       → Shape (Closing q k w)

@@ -114,6 +114,10 @@ module _ (h : Holder) (xs : List Entry) (r : Represents h (book_after fresh xs))
       (ap₂ (λ (l : List ℕ) (t : Bool). Sent bytes reply l t) same m.done, kept)
   made-idle n (Drafted p reply) (drafted e) =
       (ap (Drafted p) (e ∙ ap (λ (d : Drafting). numbers_of (draft_fields d)) (draft-is h xs r p)), idle r)
+  made-idle n (Began _ _ _) m = elim m [ ]
+  made-idle n (RestoreBegan _ _ _ _) m = elim m [ ]
+  made-idle n (Ended _ _) m = elim m [ ]
+  made-idle n (Cut _ _) m = elim m [ ]
 
 -- ---- between the halves of a close or a restore
 
@@ -180,6 +184,10 @@ module _ (h : Holder) (xs : List Entry) (p k w : ℕ) (done cut : List Entry) (h
       (ap₂ (λ (l : List ℕ) (u : Bool). Sent bytes reply l u) same m.done, kept)
   made-closing n (Drafted q reply) t (drafted e) =
       (ap (Drafted q) (e ∙ ap (λ (d : Drafting). numbers_of (draft_fields d)) (draft-is h (xs ++ cut) half.here q)), closing half)
+  made-closing n (Began _ _ _) t m = elim m [ ]
+  made-closing n (RestoreBegan _ _ _ _) t m = elim m [ ]
+  made-closing n (Ended _ _) t m = elim m [ ]
+  made-closing n (Cut _ _) t m = elim m [ ]
 
 -- ---- a session
 

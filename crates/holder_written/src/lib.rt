@@ -167,6 +167,7 @@ pub fn piece<'a>(
 }
 
 // What is drafted, in seven fields: 19, 13, or the count and the start.
+#[tactic(auto, unfolding(crate::specs::Written::draft_fields))]
 fn of_draft(d: Drafting) -> Fields
     ensures { result ≡ draft_fields d }
 {

@@ -4,6 +4,5 @@ pub mod Halves
 pub mod Damage
 pub mod SaveRestore
 pub mod Noticed
-pub mod Altered
 pub mod Tidy
 pub mod Checked

@@ -1,16 +1,15 @@
--- A check notices any change within the rows, or within anchor, counted edges and their count: of two whole works the one decides the
--- other. The words lie so far apart that up to seven changed bits of a place's word are noticed too.
+-- A check notices any change within the rows, or within anchor and counted edges: of two whole works the one decides the other. The words
+-- lie so far apart that up to seven changed bits of a place's word are noticed too.
 use Prim.Native.Nat.{ℕ, ◌<◌, ◌≤◌}
 use native.Mathlib.Omega.{arith}
 use mathlib.Core.Path.{◌≡◌, refl, sym, ap, ap₂, subst, ◌∙◌}
-use mathlib.Core.Logic.{◌⊎◌, ⊎_elim}
+use mathlib.Core.Logic.{⊎_elim}
 use mathlib.Core.Bool.{true, false}
-use lib.ListN.{length}
-use lib.Dec.{leb, eqb}
+use lib.Dec.{leb}
 use borrow.Author.Tests.{ne_eqb, leb-true, lt-leb}
 use Rattle.base.specs.Below.{every}
 use Rattle.base.proofs.BelowLaws.{not-held, every-at}
-use Rattle.chart.specs.Outline.{Outline, outline}
+use Rattle.chart.specs.Outline.{outline}
 use Rattle.chart.specs.declared.Refusal.TheVariants.{Damaged}
 use Rattle.calls.specs.Calls.{parties, places}
 use Rattle.calls.specs.declared.Reply.TheVariants.{Refused}
@@ -42,8 +41,8 @@ module _ (w v : Work) (h : whole w ≡ true) where
       let l = ((whole-iff w).0 h).1 in
       differ ((own-work v k.0 k.1).rows ∙ ap spans_of (ap₂ outline a (ap letters_from e)) ∙ sym (own-work w l.0 l.1).rows))
 
-  -- The rows decide anchor and edges, and these their count
-  pub edges-noticed : v.spans ≡ w.spans → (v.anchor ≡ w.anchor → work_edges v ≡ work_edges w → v.edges ≡ w.edges → ⊥) → whole v ≡ false
+  -- The rows decide anchor and edges
+  pub edges-noticed : v.spans ≡ w.spans → (v.anchor ≡ w.anchor → work_edges v ≡ work_edges w → ⊥) → whole v ≡ false
   edges-noticed e differ =
       not-held (whole v)
       (λ y.
@@ -57,9 +56,7 @@ module _ (w v : Work) (h : whole w ≡ true) where
       let cells : SameCells o u =
       λ c r. sym (spans-exact o g.reaches c r) ∙ ap (λ (s : Spans). in_spans s c r) rows ∙ spans-exact u f.reaches c r in
       let s = (same-cells-iff o u g.reaches f.reaches g.smooth f.smooth).0 cells in
-      let edges : work_edges v ≡ work_edges w = sym g.edged ∙ s.1 ∙ f.edged in
-      let count : v.edges ≡ w.edges = omega (arith, k.1.counted, l.1.counted, ap length edges) in
-      differ (sym g.anchor ∙ s.0 ∙ f.anchor) edges count)
+      differ (sym g.anchor ∙ s.0 ∙ f.anchor) (sym g.edged ∙ s.1 ∙ f.edged))
 
 -- ---- the word of a place
 
@@ -103,7 +100,7 @@ module _ (h g : Holder) (p : ℕ) (there : p < parties) (k : ℕ) (inside : k < 
   damaged e = rw (lt-leb parties p there, lt-leb places k inside, e) refl
 
   module _ (one : word_in h p k ≡ 0 → ⊥) (sound : whole_at h p k ≡ true) where
-    pub work-whole : whole (work_in h p k) ≡ true
+    work-whole : whole (work_in h p k) ≡ true
     unfolding whole_at
     work-whole = rw (ne_eqb (word_in h p k) 0 one) at sound
 
@@ -111,15 +108,14 @@ module _ (h g : Holder) (p : ℕ) (there : p < parties) (k : ℕ) (inside : k < 
     unfolding whole_at
     still w e = rw (ne_eqb (word_in g p k) 0 (λ z. one (sym w ∙ z)), e) refl
 
-    -- Any change of the rows; any change of the anchor, the counted edges and the count
+    -- Any change of the rows; any change of the anchor and the counted edges
     pub check-rows : word_in g p k ≡ word_in h p k → (work_in g p k).anchor ≡ (work_in h p k).anchor
         → work_edges (work_in g p k) ≡ work_edges (work_in h p k) → ((work_in g p k).spans ≡ (work_in h p k).spans → ⊥)
         → check_of g p k ≡ Refused Damaged
     check-rows w a e differ = damaged (still w (rows-noticed (work_in h p k) (work_in g p k) work-whole a e differ))
 
     pub check-edges : word_in g p k ≡ word_in h p k → (work_in g p k).spans ≡ (work_in h p k).spans
-        → ((work_in g p k).anchor ≡ (work_in h p k).anchor → work_edges (work_in g p k) ≡ work_edges (work_in h p k)
-        → (work_in g p k).edges ≡ (work_in h p k).edges → ⊥)
+        → ((work_in g p k).anchor ≡ (work_in h p k).anchor → work_edges (work_in g p k) ≡ work_edges (work_in h p k) → ⊥)
         → check_of g p k ≡ Refused Damaged
     check-edges w e differ = damaged (still w (edges-noticed (work_in h p k) (work_in g p k) work-whole e differ))
 

@@ -46,20 +46,12 @@ pub working-has : (w : Work) (o : Outline) → Working w o → HasEdges o w.anch
 working-has w o k = record { reaches = k.reaches; smooth = k.undented; anchor = sym k.anchor; edged = sym k.edges }
 
 pub working-work : (w : Work) (o : Outline) → Working w o → WorkOf w o
-working-work w o k = record { taken = has-taken (working-has w o k); counted = k.counted; rows = k.spans }
+working-work w o k = record { taken = has-taken (working-has w o k); rows = k.spans }
 
 pub work-working : (w : Work) (o : Outline) → w.taken ≡ true → WorkOf w o → Working w o
 work-working w o t k =
     let h = taken-has k.taken in
-    record {
-      taken = t;
-      anchor = sym h.anchor;
-      edges = sym h.edged;
-      counted = k.counted;
-      spans = k.rows;
-      reaches = h.reaches;
-      undented = h.smooth;
-    }
+    record { taken = t; anchor = sym h.anchor; edges = sym h.edged; spans = k.rows; reaches = h.reaches; undented = h.smooth }
 
 -- ---- one restore
 

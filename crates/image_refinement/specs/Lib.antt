@@ -1,4 +1,3 @@
--- What a restore may leave at a place; what a save gives; memory that was altered.
+-- What a restore may leave at a place; what a save gives.
 pub mod Came
 pub mod Saved
-pub mod Altered

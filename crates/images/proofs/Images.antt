@@ -6,12 +6,11 @@ use mathlib.Core.Path.{◌≡◌, refl, sym, ap, ap₂, subst, ◌∙◌}
 use mathlib.Core.Logic.{◌↔◌}
 use mathlib.Core.Bool.{true, false≢true, and-eq-true_iff}
 use mathlib.Core.List.{List, [], ◌∷◌, ◌++◌}
-use lib.ListN.{length, get_or, take, drop, set, replicate, length-append, length-take, length-drop}
+use lib.ListN.{length, get_or, take, drop, set, replicate, length-append, length-take}
 use lib.ListN.{length-replicate, length-set, get_or-append}
 use lib.Dec.{eqb, leb}
-use borrow.Author.Count.{below_more}
 use borrow.Author.Tests.{eqb-true, eq-eqb, leb-true, le-leb}
-use lib.Seq.{take-append-le, take_at, ext_get_or, get_or-append-add, get_or-set_same, get_or-set_other, get_or-take, get_or-drop}
+use lib.Seq.{take-append-le, take_at, ext_get_or, get_or-append-add, get_or-set_same, get_or-set_other, get_or-take}
 use Rattle.chart.specs.Limits.{longest}
 use Rattle.chart.specs.Outline.{Outline, at, outline}
 use Rattle.checksum.specs.Checksum.{checksum}
@@ -160,56 +159,6 @@ module _ (o : Outline) where
       zero-at (suc n) zero = refl
       zero-at (suc n) (suc k) = zero-at n k
 
--- ---- bytes that agree with the outline that they hold: the mark stands first, and zeros behind the letters
-
-module _ (b : List ℕ) (size : length b ≡ image_bytes) (short : count_in b ≤ longest) where
-  held-length : length (held_in b).letters ≡ count_in b
-  unfolding held_in
-  held-length = omega (arith, length-take (count_in b) (drop header b), length-drop header b)
-
-  pub held-mark : Agrees b (held_in b) → (get_or b 0 0 ≡ 75) × (get_or b 1 0 ≡ 79)
-  unfolding padded
-  held-mark e = (e 0 (omega arith), e 1 (omega arith))
-
-  zero-behind : (k : ℕ) → header + count_in b ≤ k → get_or (padded (held_in b)) k 0 ≡ 0
-  zero-behind k h =
-      let at-k : header + (k - header) ≡ k = omega arith in
-      ap (λ (j : ℕ). get_or (padded (held_in b)) j 0) (sym at-k) ∙ padded-zero (held_in b) (k - header) (omega (arith, held-length))
-
-  pub held-zero : Agrees b (held_in b) → (k : ℕ) → header + count_in b ≤ k → k < body_bytes → get_or b k 0 ≡ 0
-  held-zero e k h l = e k l ∙ zero-behind k h
-
-  module _ (low : get_or b 4 0 < 256) (first : get_or b 0 0 ≡ 75) (second : get_or b 1 0 ≡ 79) where
-    in-header : (k : ℕ) → k < header → get_or b k 0 ≡ get_or (padded (held_in b)) k 0
-    unfolding padded held_in
-    in-header zero l = first
-    in-header (suc zero) l = second
-    in-header (suc (suc zero)) l = refl
-    in-header (suc (suc (suc zero))) l = refl
-    in-header (suc (suc (suc (suc zero)))) l = omega (arith, low, held-length)
-    in-header (suc (suc (suc (suc (suc zero))))) l = omega (arith, low, held-length)
-    in-header (suc (suc (suc (suc (suc (suc k)))))) l = absurd (omega arith)
-
-    in_letters : (k : ℕ) → k < count_in b → get_or b (header + k) 0 ≡ get_or (padded (held_in b)) (header + k) 0
-    unfolding held_in
-    in_letters k l =
-        sym (get_or-drop header b k 0) ∙ sym (get_or-take (count_in b) (drop header b) k 0 l)
-        ∙ sym (padded-letter (held_in b) k (omega (arith, held-length)))
-
-    pub held-agrees : ((k : ℕ) → header + count_in b ≤ k → k < body_bytes → get_or b k 0 ≡ 0) → Agrees b (held_in b)
-    held-agrees zeros k l =
-        elim (dec_lt k header) [
-          | yes h ↦ in-header k h
-          | no h ↦
-              elim (dec_lt k (header + count_in b)) [
-                | yes m ↦
-                    let at-k : header + (k - header) ≡ k = omega arith in
-                    ap (λ (j : ℕ). get_or b j 0) (sym at-k) ∙ in_letters (k - header) (omega arith)
-                    ∙ ap (λ (j : ℕ). get_or (padded (held_in b)) j 0) at-k
-                | no m ↦ zeros k (omega arith) l ∙ sym (zero-behind k (omega arith))
-              ]
-        ]
-
 -- ---- what bytes are read as
 
 module _ (b : List ℕ) where
@@ -225,74 +174,17 @@ module _ (b : List ℕ) where
   unfolding Reads
   read_count e o i = omega (arith, image-count i, i.short)
 
-  pub read-differs : (Agrees b (held_in b) → ⊥) → Reads b NotImage
-  unfolding Reads
-  read-differs e o i = e (rw (sym (image-held i)) at (image-agrees b o i))
+  pub read-differs : (w : List ℕ) → w ≡ take (count_in b) (drop header b) → (Agrees b (outline (start_in b) w) → ⊥) → Reads b NotImage
+  unfolding Reads held_in
+  read-differs w t e o i = e (rw t (rw (sym (image-held i)) at (image-agrees b o i)))
 
-  pub read_whole : length b ≡ image_bytes → Stored b → count_in b ≤ longest → Agrees b (held_in b)
-      → Reads b (OfOutline (start_in b) (count_in b))
-  unfolding Reads
-  read_whole size s short e =
-      (size, refl, refl, short, agreed-image b (held_in b) size s (omega (arith, held-length b size short)) e)
-
--- ---- a record as it is written: byte by byte
-
-put_next : (l m : List ℕ) (i x : ℕ) → i < length l → ((k : ℕ) → k < i → get_or l k 0 ≡ get_or m k 0) → x ≡ get_or m i 0
-    → (k : ℕ) → k < i + 1 → get_or (set l i x) k 0 ≡ get_or m k 0
-put_next l m i x h e f =
-    below_more _ _ (λ k g. get_or-set_other l i k x 0 (λ q. omega arith) ∙ e k g) (get_or-set_same l i x 0 h ∙ f)
-
-module _ (b : List ℕ) (o : Outline) (size : length b ≡ image_bytes) where
-  abbrev b₁ : List ℕ
-  b₁ = set b 0 75
-
-  abbrev b₂ : List ℕ
-  b₂ = set b₁ 1 79
-
-  abbrev b₃ : List ℕ
-  b₃ = set b₂ 2 o.start.col
-
-  abbrev b₄ : List ℕ
-  b₄ = set b₃ 3 o.start.row
-
-  abbrev b₅ : List ℕ
-  b₅ = set b₄ 4 (length o.letters % 256)
-
-  abbrev headed : List ℕ
-  headed = set b₅ 5 (length o.letters / 256)
-
-  headed-agrees : (k : ℕ) → k < header → get_or headed k 0 ≡ get_or (padded o) k 0
-  unfolding padded
-  headed-agrees =
-      let m = padded o in
-      put_next b₅ m 5 _ (simp length-set (omega (arith, size)))
-      (put_next b₄ m 4 _ (simp length-set (omega (arith, size)))
-      (put_next b₃ m 3 _ (simp length-set (omega (arith, size)))
-      (put_next b₂ m 2 _ (simp length-set (omega (arith, size)))
-      (put_next b₁ m 1 79 (simp length-set (omega (arith, size)))
-      (put_next b m 0 75 (omega (arith, size)) (λ k l. absurd (omega arith)) refl) refl) refl) refl) refl) refl
-
--- The header, then the letters, then the zeros
-module _ (b m e : List ℕ) (o : Outline) (size : length b ≡ image_bytes)
-    (left : (k : ℕ) → k < header → get_or m k 0 ≡ get_or (headed b o size) k 0)
-    (put : (k : ℕ) → k < length o.letters → get_or m (header + k) 0 ≡ get_or o.letters k 0)
-    (stayed : (k : ℕ) → k < header + length o.letters → get_or e k 0 ≡ get_or m k 0)
-    (zeros : (k : ℕ) → k < body_bytes → header + length o.letters ≤ k → get_or e k 0 ≡ 0) where
-  pub body-agrees : Agrees e o
-  body-agrees k l =
-      elim (dec_lt k header) [
-        | yes h ↦ stayed k (omega arith) ∙ left k h ∙ headed-agrees b o size k h
-        | no h ↦
-            let at-k : header + (k - header) ≡ k = omega arith in
-            elim (dec_lt k (header + length o.letters)) [
-              | yes n ↦
-                  stayed k n ∙ ap (λ (j : ℕ). get_or m j 0) (sym at-k) ∙ put (k - header) (omega arith)
-                  ∙ sym (padded-letter o (k - header) (omega arith)) ∙ ap (λ (j : ℕ). get_or (padded o) j 0) at-k
-              | no n ↦
-                  zeros k l (omega arith) ∙ sym (padded-zero o (k - header) (omega arith))
-                  ∙ ap (λ (j : ℕ). get_or (padded o) j 0) at-k
-            ]
-      ]
+  pub read_whole :
+      (w : List ℕ) → w ≡ take (count_in b) (drop header b) → length b ≡ image_bytes → Stored b → count_in b ≤ longest
+      → Agrees b (outline (start_in b) w) → Reads b (OfOutline (start_in b) (count_in b))
+  unfolding Reads held_in
+  read_whole w t size s short e =
+      let few : length w ≤ longest = rw t (omega (arith, length-take (count_in b) (drop header b))) in
+      (size, refl, refl, short, rw t at (agreed-image b (outline (start_in b) w) size s few e))
 
 -- ---- an image as it is written
 

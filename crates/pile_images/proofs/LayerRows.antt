@@ -6,7 +6,6 @@ use mathlib.Core.Logic.{◌↔◌}
 use mathlib.Core.Bool.{Bool, true, ◌&&◌}
 use lib.Dec.{leb, ltb}
 use borrow.Author.Tests.{lt-ltb, ltb-true}
-use Rattle.base.specs.Below.{first}
 use Rattle.base.proofs.BelowLaws.{in-interval, same_test, first-same}
 use Rattle.chart.specs.Limits.{side}
 use Rattle.chart.specs.Outline.{Outline, outline, at}

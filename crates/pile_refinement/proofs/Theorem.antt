@@ -98,16 +98,19 @@ made-says : (p : Pile) (ms : List Move) (rs : List (List ℕ)) (q : Pile) → Ma
     → (rs ≡ map written (said_by p ms)) × (q ≡ moved_by p ms)
 unfolding said_by moved_by moved progress_fields
 made-says p [] [] q end = (refl, refl)
+made-says p [] (r ∷ rs) q m = elim m [ ]
 made-says p (renew ∷ ms) rs q (renewed {p = _} {n = n} e later) =
     let (a, b) = made-says n ms rs q later in (
       a ∙ ap (λ (x : Pile). map written (said_by x ms)) e,
       b ∙ ap (λ (x : Pile). moved_by x ms) e,
     )
+made-says p (call c ∷ ms) [] q m = elim m [ ]
 made-says p (call c ∷ ms) (r ∷ rs) q (called {p = _} {n = n} d later) =
     let (a, b) = made-says n ms rs q later in (
       ap₂ ◌∷◌ d.replied (a ∙ ap (λ (x : Pile). map written (said_by x ms)) d.pile),
       b ∙ ap (λ (x : Pile). moved_by x ms) d.pile,
     )
+made-says p (steps k ∷ ms) [] q m = elim m [ ]
 made-says p (steps k ∷ ms) (r ∷ rs) q (went {p = _} {n = n} d later) =
     let (a, b) = made-says n ms rs q later in (
       ap₂ ◌∷◌ d.replied (a ∙ ap (λ (x : Pile). map written (said_by x ms)) d.pile),

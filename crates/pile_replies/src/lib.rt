@@ -19,6 +19,7 @@ pub enum PileReply {
 }
 
 // Its fields.
+#[tactic(auto, unfolding(crate::specs::Replies::pile_fields))]
 pub fn of_reply(r: PileReply) -> Fields
     ensures { result ≡ pile_fields r }
 {

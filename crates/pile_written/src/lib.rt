@@ -17,6 +17,7 @@ use pile_calls::{Progress, ROW_BYTES, STATE_NUMBERS};
 use pile_replies::of_reply;
 
 // The fields of what a step of a check replies.
+#[tactic(auto, unfolding(crate::specs::Written::progress_fields))]
 pub fn of_progress(p: Progress) -> Fields
     ensures { result ≡ progress_fields p }
 {

@@ -56,6 +56,7 @@ pub fn locate(anchor: Point, edges: &[i16], reading: Reading) -> Located
 }
 
 // The call's reply.
+#[tactic(auto, unfolding(crate::specs::Replies::located_reply))]
 pub fn reply(located: Located) -> Reply
     ensures { result ≡ located_reply located }
 {

@@ -10,7 +10,7 @@ use lib.Dec.{T, is_le, compare_is_eq, eqb, leb→le, nleb→lt, eqb→eq, eqb_re
 use lib.Arith.{lt_of_le-ne}
 use lib.Pow.{pow-add, pow_pos, pow_mono, pow-lt}
 use lib.Ieee.{Float, Format, prec, emax, low, size, nearest, round}
-use lib.Ieee.Digits.{size_le}
+use lib.Ieee.Digits.{size-le}
 use lib.Ieee.Fits.{kept-lt, nearest-le, round_is}
 use lib.Ieee.Exact.{HasValue, units_val}
 use lib.Ieee.Nearest.{closest}
@@ -81,7 +81,7 @@ round-near f s num den t D fits h =
     let p = prec f in
     let n = num * 2 ^ low f in
     let k = drop p n den in
-    let k-le : k ≤ t = dropped (size (n / den)) p t (size_le (n / den) (p + t) ((div-lt_iff_lt-mul D).1 h)) in
+    let k-le : k ≤ t = dropped (size (n / den)) p t (size-le (n / den) (p + t) ((div-lt_iff_lt-mul D).1 h)) in
     let top : grid f num den ≤ 2 ^ (p + t) = le_trans (mul-le-mul (kept-le p n den) (pow_mono k-le)) (le_of_eq (sym (pow-add 2 p t))) in
     let fine : grid f num den < 2 ^ (low f + suc (emax f)) = lt_of_le_of_lt top (pow-lt (omega arith)) in
     let near = spread (kept p n den) den n k t (closest-half n (den * 2 ^ k) (mul-pos D (pow_pos k))) (pow_mono k-le) in

@@ -96,6 +96,7 @@ pub fn span_at(spans: Spans, row: u16) -> Span
 }
 
 // The columns of a row as the reply of a call.
+#[tactic(auto, unfolding(crate::specs::Spans::span_reply))]
 pub fn reply(span: Span) -> Reply
     ensures { result ≡ span_reply span }
 {

@@ -2,35 +2,36 @@
 // command of the same document, and whether bytes with their checksum after them pass, as they are and with a bit changed.
 #![tactic(auto)]
 
-use libc::STDOUT_FILENO;
+use std::io;
 
-fn print(bytes: &[u8]) {
-    io::print_hex(STDOUT_FILENO, checksum::of(bytes) as u64, 8);
-    io::write_all(STDOUT_FILENO, b"\n");
+fn print(rt: &impl Print, bytes: &[u8]) -> io::Result<()> {
+    println!(rt; "{:08x}", checksum::of(bytes))
 }
 
-fn judge(bytes: &[u8]) {
+fn judge(rt: &impl Print, bytes: &[u8]) -> io::Result<()> {
     if checksum::intact(bytes) {
-        io::write_all(STDOUT_FILENO, b"intact\n");
+        println!(rt; "intact")
     } else {
-        io::write_all(STDOUT_FILENO, b"damaged\n");
+        println!(rt; "damaged")
     }
 }
 
-fn main() {
+fn main(rt: HostRuntime) -> io::Result<()> {
     let none = [0u8; 0];
-    print(&none[..]);
-    print(b"123456789");
+    print(&rt, &none[..])?;
+    print(&rt, b"123456789")?;
     let zeros = [0u8; 32];
-    print(&zeros[..]);
+    print(&rt, &zeros[..])?;
     let ones = [255u8; 32];
-    print(&ones[..]);
+    print(&rt, &ones[..])?;
     print(
+        &rt,
         b"\x00\x01\x02\x03\x04\x05\x06\x07\x08\t\n\x0B\x0C\r\x0E\x0F\x10\x11\x12\x13\x14\x15\x16\x17\x18\x19\x1A\x1B\x1C\x1D\x1E\x1F",
-    );
+    )?;
     print(
+        &rt,
         b"\x1F\x1E\x1D\x1C\x1B\x1A\x19\x18\x17\x16\x15\x14\x13\x12\x11\x10\x0F\x0E\r\x0C\x0B\n\t\x08\x07\x06\x05\x04\x03\x02\x01\x00",
-    );
+    )?;
     let mut command = [0u8; 48];
     command[0] = 0x01;
     command[1] = 0xC0;
@@ -40,10 +41,10 @@ fn main() {
     command[31] = 0x18;
     command[32] = 0x28;
     command[40] = 0x02;
-    print(&command[..]);
-    judge(b"123456789\x83\x92\x06\xE3");
-    judge(b"123456788\x83\x92\x06\xE3");
-    judge(b"123456789\x83\x92\x06\xE2");
-    judge(&zeros[..4]);
-    judge(&zeros[..3]);
+    print(&rt, &command[..])?;
+    judge(&rt, b"123456789\x83\x92\x06\xE3")?;
+    judge(&rt, b"123456788\x83\x92\x06\xE3")?;
+    judge(&rt, b"123456789\x83\x92\x06\xE2")?;
+    judge(&rt, &zeros[..4])?;
+    judge(&rt, &zeros[..3])
 }

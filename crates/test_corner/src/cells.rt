@@ -17,25 +17,21 @@ pub(crate) fn row(k: u16) -> u16 {
 
 // The lowest cell of a set, leftmost in its row. Cells are numbered in this order.
 pub(crate) fn lowest(set: u32) -> u16 {
-    let mut k = 0;
-    while k < CELLS {
+    for k in 0..CELLS {
         if sets::has(set, k) {
             return k;
         }
-        k += 1;
     }
     NONE
 }
 
 // The leftmost cell of a set, lowest in its column.
 pub(crate) fn leftmost(set: u32) -> u16 {
-    let mut t = 0;
-    while t < CELLS {
+    for t in 0..CELLS {
         let k = 4 * (t % 4) + t / 4;
         if sets::has(set, k) {
             return k;
         }
-        t += 1;
     }
     NONE
 }

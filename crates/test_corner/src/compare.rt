@@ -1,5 +1,5 @@
 // Runs one outline through the engine's test and loose queries, and compares with what was counted.
-ghost use Rattle.io.specs.Counts.{IsPrefixLen};
+ghost use Rattle.std.specs.Prelude.{◌≡◌, ◌≤◌, length, take};
 
 use crate::cells::NONE;
 use crate::plain::Counted;
@@ -37,8 +37,7 @@ fn edge_agrees(list: &[i16], k: usize, p: u16, q: u16) -> bool {
 // The edges lead round the hull from the anchor back to the anchor, vertex by vertex.
 fn edges_agree(list: &[i16], count: usize, set: u32, anchor: u16) -> bool {
     let mut p = anchor;
-    let mut k = 0;
-    while k < ROOM {
+    for k in 0..ROOM {
         let q = plain::next_vertex(set, p);
         if q == NONE || (0 < k && p == anchor) {
             return k == count;
@@ -47,7 +46,6 @@ fn edges_agree(list: &[i16], count: usize, set: u32, anchor: u16) -> bool {
             return false;
         }
         p = q;
-        k += 1;
     }
     false
 }
@@ -83,12 +81,10 @@ fn query_agrees(anchor: Point, edges: &[i16], set: u32, t: u16) -> bool {
 }
 
 fn queries_agree(anchor: Point, edges: &[i16], set: u32) -> bool {
-    let mut t = 0;
-    while t < 64 {
+    for t in 0..64 {
         if !query_agrees(anchor, edges, set, t) {
             return false;
         }
-        t += 1;
     }
     true
 }
@@ -130,13 +126,14 @@ fn agrees(fields: Fields, list: &[i16], counted: Counted) -> bool {
 
 // The letters of a closed walk of n corners, from the corner at `first`. Returns how many there are.
 fn spell(corners: &[u16; CORNERS], n: usize, first: usize, letters: &mut [u8]) -> usize
-    ensures { IsPrefixLen result letters.new }
+    ensures within { result ≤ length letters.new }
+    ensures prefix { result ≡ length (take result letters.new) }
 {
     let mut i = 0;
     while i < n && i < letters.len() {
-        let place = std::num::wrapping_add_usize(first, i);
+        let place = first.wrapping_add(i);
         let from = walks::corner_at(corners, n, place);
-        let to = walks::corner_at(corners, n, std::num::wrapping_add_usize(place, 1));
+        let to = walks::corner_at(corners, n, place.wrapping_add(1));
         letters[i] = walks::letter(from, to);
         i += 1;
     }
@@ -145,7 +142,8 @@ fn spell(corners: &[u16; CORNERS], n: usize, first: usize, letters: &mut [u8]) -
 
 // The same walk backward: the letters from the last to the first, each replaced by its opposite. Returns how many there are.
 fn turn_back(letters: &[u8], back: &mut [u8]) -> usize
-    ensures { IsPrefixLen result back.new }
+    ensures within { result ≤ length back.new }
+    ensures prefix { result ≡ length (take result back.new) }
 {
     let n = letters.len();
     let mut i = 0;
@@ -177,12 +175,10 @@ fn twins_agree(fields: Fields, back: Fields, n: usize) -> bool {
 
 // The same edges in both lists.
 fn same_edges(a: &[i16; ROOM], b: &[i16; ROOM]) -> bool {
-    let mut k = 0;
-    while k < ROOM {
+    for k in 0..ROOM {
         if a[k] != b[k] {
             return false;
         }
-        k += 1;
     }
     true
 }

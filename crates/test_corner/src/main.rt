@@ -9,8 +9,8 @@ mod sets;
 mod walks;
 
 use compare::Answer;
-use libc::STDOUT_FILENO;
 use plain::Counted;
+use std::io;
 use walks::{CORNERS, OFF, Search};
 
 // The longest search from one corner takes 768,725 steps. A search cut short would miss walks, and the counts would show it.
@@ -28,7 +28,7 @@ struct Tally {
 }
 
 fn more(n: u64) -> u64 {
-    std::num::wrapping_add_u64(n, 1)
+    n.wrapping_add(1)
 }
 
 fn with_number(t: Tally, number: u16) -> Tally {
@@ -60,10 +60,8 @@ fn with_answer(t: Tally, answer: Answer) -> Tally {
 // A closed walk from each of its corners.
 fn with_starts(t: Tally, corners: &[u16; CORNERS], n: usize, counted: Counted) -> Tally {
     let mut u = t;
-    let mut first = 0;
-    while first < n {
+    for first in 0..n {
         u = with_answer(u, compare::run(corners, n, first, counted));
-        first += 1;
     }
     u
 }
@@ -108,27 +106,22 @@ fn run_all() -> Tally {
         dents: 0,
         mismatches: 0,
     };
-    let mut start = 0;
-    while start < OFF {
+    for start in 0..OFF {
         t = with_search(t, start);
-        start += 1;
     }
     t
 }
 
-fn write_count(name: &[u8], n: u64) {
-    io::write_all(STDOUT_FILENO, name);
-    io::write_all(STDOUT_FILENO, b" ");
-    io::print_decimal(STDOUT_FILENO, n);
-    io::write_all(STDOUT_FILENO, b"\n");
+fn write_count(rt: &impl Print, name: &str, n: u64) -> io::Result<()> {
+    println!(rt; "{name} {n}")
 }
 
-fn main() {
+fn main(rt: HostRuntime) -> io::Result<()> {
     let t = run_all();
-    write_count(b"closed simple walks", t.walks);
-    write_count(b"outlines", t.outlines);
-    write_count(b"taken", t.taken);
-    write_count(b"refused by 8", t.back_steps);
-    write_count(b"refused by 9", t.dents);
-    write_count(b"mismatches", t.mismatches);
+    write_count(&rt, "closed simple walks", t.walks)?;
+    write_count(&rt, "outlines", t.outlines)?;
+    write_count(&rt, "taken", t.taken)?;
+    write_count(&rt, "refused by 8", t.back_steps)?;
+    write_count(&rt, "refused by 9", t.dents)?;
+    write_count(&rt, "mismatches", t.mismatches)
 }

@@ -27,20 +27,18 @@ fn one_if(b: bool) -> u64 {
 
 // The two numbers differ by one.
 fn one_apart(a: u64, b: u64) -> bool {
-    a == std::num::wrapping_add_u64(b, 1) || b == std::num::wrapping_add_u64(a, 1)
+    a == b.wrapping_add(1) || b == a.wrapping_add(1)
 }
 
 // Enclosed: clockwise, ups minus downs is 1. In the other direction ups and downs change places, and downs minus ups is 1.
 fn encloses(corners: &[u16; CORNERS], n: usize, k: u16) -> bool {
-    let mut ups = 0;
-    let mut downs = 0;
-    let mut i = 0;
-    while i < n {
+    let mut ups = 0u64;
+    let mut downs = 0u64;
+    for i in 0..n {
         let from = walks::corner_at(corners, n, i);
         let to = walks::corner_at(corners, n, i + 1);
-        ups = std::num::wrapping_add_u64(ups, one_if(climbs(from, to, k)));
-        downs = std::num::wrapping_add_u64(downs, one_if(climbs(to, from, k)));
-        i += 1;
+        ups = ups.wrapping_add(one_if(climbs(from, to, k)));
+        downs = downs.wrapping_add(one_if(climbs(to, from, k)));
     }
     one_apart(ups, downs)
 }
@@ -52,10 +50,8 @@ fn with_if(set: u32, k: u16, b: bool) -> u32 {
 // The enclosed cells.
 fn enclosed(corners: &[u16; CORNERS], n: usize) -> u32 {
     let mut set = 0;
-    let mut k = 0;
-    while k < CELLS {
+    for k in 0..CELLS {
         set = with_if(set, k, encloses(corners, n, k));
-        k += 1;
     }
     set
 }
@@ -74,12 +70,10 @@ fn gap_at(set: u32, a: u16, b: u16, c: u16) -> bool {
 
 // Some row or column has a gap.
 fn has_gap(set: u32) -> bool {
-    let mut t = 0;
-    while t < TRIPLES {
+    for t in 0..TRIPLES {
         if gap_at(set, t % 16, t / 16 % 16, t / 256) {
             return true;
         }
-        t += 1;
     }
     false
 }
@@ -127,12 +121,10 @@ fn held_by(set: u32, a: u16, b: u16, c: u16, x: u16) -> bool {
 
 // Some three cells of the set have the cell in their triangle. Every three are tried in every order.
 fn in_hull(set: u32, x: u16) -> bool {
-    let mut t = 0;
-    while t < TRIPLES {
+    for t in 0..TRIPLES {
         if held_by(set, t % 16, t / 16 % 16, t / 256, x) {
             return true;
         }
-        t += 1;
     }
     false
 }
@@ -140,10 +132,8 @@ fn in_hull(set: u32, x: u16) -> bool {
 // The hull of a set.
 fn hull(set: u32) -> u32 {
     let mut filled = 0;
-    let mut k = 0;
-    while k < CELLS {
+    for k in 0..CELLS {
         filled = with_if(filled, k, in_hull(set, k));
-        k += 1;
     }
     filled
 }
@@ -185,24 +175,20 @@ fn passed(p: u16, q: u16, x: u16) -> bool {
 
 // The segment from p to q is a whole edge of the hull, clockwise: no cell of the set is left of it or beyond its ends.
 fn is_edge(set: u32, p: u16, q: u16) -> bool {
-    let mut x = 0;
-    while x < CELLS {
+    for x in 0..CELLS {
         if sets::has(set, x) && !passed(p, q, x) {
             return false;
         }
-        x += 1;
     }
     p != q && sets::has(set, q)
 }
 
 // The vertex of the hull after p, clockwise, or none.
 pub(crate) fn next_vertex(set: u32, p: u16) -> u16 {
-    let mut q = 0;
-    while q < CELLS {
+    for q in 0..CELLS {
         if is_edge(set, p, q) {
             return q;
         }
-        q += 1;
     }
     NONE
 }

@@ -1,73 +1,70 @@
 // Finds the factors of a table of words over 0 and 1, says which are Christoffel words, and writes a line for each word.
 #![tactic(auto)]
 
-ghost use Rattle.std.specs.Prelude.{◌<◌, ◌≤◌, length};
+ghost use Rattle.std.specs.Prelude.{◌<◌, ◌≤◌, IfOk, length};
 
-use libc::STDOUT_FILENO;
+use std::io;
 
 // The letters of one copy, the repeats if there are several, and whether it is a Christoffel word.
-fn write_factor(copy: &[u8], times: u32, christoffel: bool) {
+fn write_factor(rt: &impl Print, copy: &[u8], times: u32, christoffel: bool) -> io::Result<()> {
     if times == 1 {
-        io::write_all(STDOUT_FILENO, b" ");
-        io::write_all(STDOUT_FILENO, copy);
+        print!(rt; " ")?;
+        rt.write_all(copy)?;
     } else {
-        io::write_all(STDOUT_FILENO, b" (");
-        io::write_all(STDOUT_FILENO, copy);
-        io::write_all(STDOUT_FILENO, b")^");
-        io::print_decimal(STDOUT_FILENO, times as u64);
+        print!(rt; " (")?;
+        rt.write_all(copy)?;
+        print!(rt; ")^{times}")?;
     }
     if christoffel {
-        io::write_all(STDOUT_FILENO, b"+");
+        print!(rt; "+")
     } else {
-        io::write_all(STDOUT_FILENO, b"-");
+        print!(rt; "-")
     }
 }
 
 // Writes the factor that begins at `at` and returns where the next one begins.
-fn write_next(word: &[u8], at: usize) -> usize
+fn write_next(rt: &impl Print, word: &[u8], at: usize) -> io::Result<usize>
     requires { (at < length word.now) × (length word.now < 4294967296) }
-    ensures { (at < result) × (result ≤ length word.now) }
+    ensures { IfOk result (λ next. (at < next) × (next ≤ length word.now)) }
 {
     let factor = words::factor_at(word, at, b'1');
     let end = at + factor.length as usize;
-    write_factor(&word[at..end], factor.times, factor.christoffel);
+    write_factor(rt, &word[at..end], factor.times, factor.christoffel)?;
     let size = factor.times * factor.length;
-    at + size as usize
+    Ok(at + size as usize)
 }
 
 // All factors of a word, in order.
-fn write_factors(word: &[u8])
+fn write_factors(rt: &impl Print, word: &[u8]) -> io::Result<()>
     requires { length word.now < 4294967296 }
 {
     let mut at = 0;
     while at < word.len() {
-        at = write_next(word, at);
+        at = write_next(rt, word, at)?;
     }
+    Ok(())
 }
 
 // A word and its factors, on a line of its own.
-fn write_word(word: &[u8])
+fn write_word(rt: &impl Print, word: &[u8]) -> io::Result<()>
     requires { length word.now < 4294967296 }
 {
-    io::write_all(STDOUT_FILENO, word);
-    io::write_all(STDOUT_FILENO, b":");
-    write_factors(word);
-    io::write_all(STDOUT_FILENO, b"\n");
+    rt.write_all(word)?;
+    print!(rt; ":")?;
+    write_factors(rt, word)?;
+    println!(rt)
 }
 
-fn main() {
-    io::write_all(
-        STDOUT_FILENO,
-        b"word: its factors, + a Christoffel word, - none\n",
-    );
-    write_word(b"1011010100010");
-    write_word(b"101101001");
-    write_word(b"01011011");
-    write_word(b"001101");
-    write_word(b"0011");
-    write_word(b"0");
-    write_word(b"1");
-    write_word(b"");
-    write_word(b"0101");
-    write_word(b"111000");
+fn main(rt: HostRuntime) -> io::Result<()> {
+    println!(rt; "word: its factors, + a Christoffel word, - none")?;
+    write_word(&rt, b"1011010100010")?;
+    write_word(&rt, b"101101001")?;
+    write_word(&rt, b"01011011")?;
+    write_word(&rt, b"001101")?;
+    write_word(&rt, b"0011")?;
+    write_word(&rt, b"0")?;
+    write_word(&rt, b"1")?;
+    write_word(&rt, b"")?;
+    write_word(&rt, b"0101")?;
+    write_word(&rt, b"111000")
 }

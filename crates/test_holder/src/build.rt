@@ -1,5 +1,5 @@
 // A script in the making: calls of eleven bytes each.
-use libc::STDOUT_FILENO;
+use std::io;
 
 pub(crate) const SIZE: usize = 45056;
 
@@ -37,59 +37,62 @@ impl Script {
     }
 
     // The next calls are of this party, at this place.
-    pub(crate) fn at(mut self, party: u64, place: u64) -> Self {
+    pub(crate) fn at(&mut self, party: u64, place: u64) {
         self.party = low(party);
         self.place = low(place);
-        self
     }
 
     // Appends a byte. If there is no space for it, a line says so.
-    fn put_byte(mut self, byte: u8) -> Self {
+    fn put_byte(&mut self, rt: &impl Print, byte: u8) -> io::Result<()> {
         let at = self.end;
         if at < SIZE {
             self.bytes[at] = byte;
             self.end = at + 1;
+            Ok(())
         } else {
-            io::write_all(STDOUT_FILENO, b"no space for a call\n");
+            println!(rt; "no space for a call")
         }
-        self
     }
 
     // Appends a 32-bit number, low byte first.
-    fn put_long(self, n: u64) -> Self {
-        self.put_byte(low(n))
-            .put_byte(low(n / 256))
-            .put_byte(low(n / 65536))
-            .put_byte(low(n / 16777216))
+    fn put_long(&mut self, rt: &impl Print, n: u64) -> io::Result<()> {
+        self.put_byte(rt, low(n))?;
+        self.put_byte(rt, low(n / 256))?;
+        self.put_byte(rt, low(n / 65536))?;
+        self.put_byte(rt, low(n / 16777216))
     }
 
     // Appends a call by its number and two 32-bit numbers.
-    pub(crate) fn put(self, number: u64, x: u64, y: u64) -> Self {
+    pub(crate) fn put(&mut self, rt: &impl Print, number: u64, x: u64, y: u64) -> io::Result<()> {
         let party = self.party;
         let place = self.place;
-        self.put_byte(low(number))
-            .put_byte(party)
-            .put_byte(place)
-            .put_long(x)
-            .put_long(y)
+        self.put_byte(rt, low(number))?;
+        self.put_byte(rt, party)?;
+        self.put_byte(rt, place)?;
+        self.put_long(rt, x)?;
+        self.put_long(rt, y)
     }
 
     // Appends a call by its number and two 16-bit numbers.
-    pub(crate) fn put_short(self, number: u64, x: u64, y: u64) -> Self {
-        self.put(number, short(x), short(y))
+    pub(crate) fn put_short(
+        &mut self,
+        rt: &impl Print,
+        number: u64,
+        x: u64,
+        y: u64,
+    ) -> io::Result<()> {
+        self.put(rt, number, short(x), short(y))
     }
 
-    pub(crate) fn add(self, letter: u8) -> Self {
-        self.put(1, LAST_THREE + letter as u64, LAST_TWO)
+    pub(crate) fn add(&mut self, rt: &impl Print, letter: u8) -> io::Result<()> {
+        self.put(rt, 1, LAST_THREE + letter as u64, LAST_TWO)
     }
 
     // One letter n times.
-    pub(crate) fn times(mut self, n: u64, letter: u64) -> Self {
-        let mut i = 0;
-        while i < n {
-            self = self.add(low(letter));
-            i += 1;
+    pub(crate) fn times(&mut self, rt: &impl Print, n: u64, letter: u64) -> io::Result<()> {
+        for _ in 0..n {
+            self.add(rt, low(letter))?;
         }
-        self
+        Ok(())
     }
 }

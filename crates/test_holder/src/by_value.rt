@@ -42,8 +42,7 @@ pub(crate) fn differing(script: &[u8], replies: &[u16], count: usize) -> usize
 {
     let mut holder = holder_values::fresh();
     let mut others = 0;
-    let mut i = 0;
-    while i < count {
+    for i in 0..count {
         let at = BYTES * i;
         let to = NUMBERS * i;
         let stepped = answer(holder, &script[at..at + BYTES], &replies[to..to + NUMBERS]);
@@ -51,7 +50,6 @@ pub(crate) fn differing(script: &[u8], replies: &[u16], count: usize) -> usize
             others += 1;
         }
         holder = stepped.holder;
-        i += 1;
     }
     others
 }

@@ -31,10 +31,8 @@ fn following(line: &[u8], from: usize) -> usize
 // The field at an index, empty if the line has no such field.
 pub(crate) fn field(line: &[u8], index: usize) -> &[u8] {
     let mut from = 0;
-    let mut i = 0;
-    while i < index {
+    for _ in 0..index {
         from = following(line, from);
-        i += 1;
     }
     let to = next(line, from, b' ');
     &line[from..to]
@@ -44,12 +42,10 @@ pub(crate) fn same(a: &[u8], b: &[u8]) -> bool {
     if a.len() != b.len() {
         return false;
     }
-    let mut i = 0;
-    while i < a.len() {
+    for i in 0..a.len() {
         if a[i] != b[i] {
             return false;
         }
-        i += 1;
     }
     true
 }
@@ -83,10 +79,8 @@ pub(crate) fn number(field: &[u8], hex: bool) -> u64 {
         return NO_NUMBER;
     }
     let mut number = 0;
-    let mut i = 0;
-    while i < field.len() {
+    for i in 0..field.len() {
         number = extended(number, digit(field[i]), hex);
-        i += 1;
     }
     number
 }

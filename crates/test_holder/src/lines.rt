@@ -3,18 +3,16 @@ ghost use Rattle.std.specs.Prelude.{◌+◌, ◌*◌, ◌≤◌, ◌<◌, length
 ghost use Rattle.chart.specs.Fields.{reply_width};
 
 use chart::reply::NUMBERS;
-use libc::STDOUT_FILENO;
+use std::io;
 
 pub(crate) fn same(a: &[u16], b: &[u16]) -> bool {
     if a.len() != b.len() {
         return false;
     }
-    let mut i = 0;
-    while i < a.len() {
+    for i in 0..a.len() {
         if a[i] != b[i] {
             return false;
         }
-        i += 1;
     }
     true
 }
@@ -43,42 +41,39 @@ fn run_end(replies: &[u16], i: usize, count: usize) -> usize
     end
 }
 
-fn write_number(n: u16) {
-    io::print_decimal(STDOUT_FILENO, n as u64);
+fn write_number(rt: &impl Print, n: u16) -> io::Result<()> {
+    print!(rt; "{n}")
 }
 
-pub(crate) fn write_numbers(list: &[u16]) {
-    let mut i = 0;
-    while i < list.len() {
+pub(crate) fn write_numbers(rt: &impl Print, list: &[u16]) -> io::Result<()> {
+    for (i, n) in list.iter().enumerate() {
         if 0 < i {
-            io::write_all(STDOUT_FILENO, b" ");
+            print!(rt; " ")?;
         }
-        write_number(list[i]);
-        i += 1;
+        write_number(rt, *n)?;
     }
+    Ok(())
 }
 
 // A line for each reply. Equal replies in a row share one line with their count.
-pub(crate) fn write_replies(replies: &[u16], count: usize)
+pub(crate) fn write_replies(rt: &impl Print, replies: &[u16], count: usize) -> io::Result<()>
     requires { reply_width * count ≤ length replies.now }
 {
     let mut i = 0;
     while i < count {
         let end = run_end(replies, i, count);
-        write_numbers(reply(replies, i));
+        write_numbers(rt, reply(replies, i))?;
         if i + 1 < end {
-            io::write_all(STDOUT_FILENO, b", ");
-            io::print_decimal(STDOUT_FILENO, (end - i) as u64);
-            io::write_all(STDOUT_FILENO, b" times");
+            let times = end - i;
+            print!(rt; ", {times} times")?;
         }
-        io::write_all(STDOUT_FILENO, b"\n");
+        println!(rt)?;
         i = end;
     }
+    Ok(())
 }
 
 // A line with a count behind its name.
-pub(crate) fn write_count(name: &[u8], count: usize) {
-    io::write_all(STDOUT_FILENO, name);
-    io::print_decimal(STDOUT_FILENO, count as u64);
-    io::write_all(STDOUT_FILENO, b"\n");
+pub(crate) fn write_count(rt: &impl Print, name: &str, count: usize) -> io::Result<()> {
+    println!(rt; "{name}{count}")
 }

@@ -3,7 +3,7 @@ ghost use Rattle.std.specs.Prelude.{◌≤◌};
 
 use crate::build::Script;
 use crate::fields::{NO_NUMBER, digit, field, next, number, same};
-use libc::STDOUT_FILENO;
+use std::io;
 
 // The names, the nine calls first in the order of their numbers.
 const ADD: usize = 1;
@@ -23,14 +23,12 @@ const NAMES: usize = 13;
 // The index of a name, NAMES if it is none of them.
 fn index(name: &[u8]) -> usize {
     let names = b"begin add drop clear close query row reading piece at times letters outline";
-    let mut i = 0;
-    while i < NAMES {
+    for i in 0..NAMES {
         if same(name, field(names, i)) {
             return i;
         }
-        i += 1;
     }
-    i
+    NAMES
 }
 
 // How many fields follow a name.
@@ -72,42 +70,52 @@ fn fits(name: usize, x: u64, y: u64) -> bool {
 }
 
 // Adds the letters of a word of digits. What is not a digit is a letter that the holder refuses.
-fn letters(s: Script, word: &[u8]) -> Script {
-    let mut s = s;
-    let mut i = 0;
-    while i < word.len() {
-        s = s.add(digit(word[i]));
-        i += 1;
+fn letters(rt: &impl Print, s: &mut Script, word: &[u8]) -> io::Result<()> {
+    for byte in word {
+        s.add(rt, digit(*byte))?;
     }
-    s
+    Ok(())
 }
 
 // Appends what a name stands for. An outline is a whole draft, and a close.
-fn append(s: Script, name: usize, x: u64, y: u64, word: &[u8]) -> Script {
+fn append(
+    rt: &impl Print,
+    s: &mut Script,
+    name: usize,
+    x: u64,
+    y: u64,
+    word: &[u8],
+) -> io::Result<()> {
     match name {
-        ADD => s.times(1, x),
-        READING => s.put(name as u64, x, y),
-        AT => s.at(x, y),
-        TIMES => s.times(x, y),
-        LETTERS => letters(s, word),
-        OUTLINE => letters(s.put_short(0, x, y), word).put_short(4, 0, 0),
-        _ => s.put_short(name as u64, x, y),
+        ADD => s.times(rt, 1, x),
+        READING => s.put(rt, name as u64, x, y),
+        AT => {
+            s.at(x, y);
+            Ok(())
+        }
+        TIMES => s.times(rt, x, y),
+        LETTERS => letters(rt, s, word),
+        OUTLINE => {
+            s.put_short(rt, 0, x, y)?;
+            letters(rt, s, word)?;
+            s.put_short(rt, 4, 0, 0)
+        }
+        _ => s.put_short(rt, name as u64, x, y),
     }
 }
 
 // Appends the calls of a line. A line that cannot be read is written out.
-fn append_line(s: Script, line: &[u8]) -> Script {
+fn append_line(rt: &impl Print, s: &mut Script, line: &[u8]) -> io::Result<()> {
     let name = index(field(line, 0));
     let count = fields_after(name);
     let x = argument(line, 1, name);
     let y = argument(line, 2, name);
     if name < NAMES && whole(line, count) && fits(name, x, y) {
-        return append(s, name, x, y, field(line, count));
+        return append(rt, s, name, x, y, field(line, count));
     }
-    io::write_all(STDOUT_FILENO, b"cannot be read: ");
-    io::write_all(STDOUT_FILENO, line);
-    io::write_all(STDOUT_FILENO, b"\n");
-    s
+    print!(rt; "cannot be read: ")?;
+    rt.write_all(line)?;
+    println!(rt)
 }
 
 // Whether a line is empty or a comment.
@@ -116,19 +124,19 @@ fn silent(line: &[u8]) -> bool {
 }
 
 // The script of a text.
-pub(crate) fn script(text: &[u8]) -> Script {
+pub(crate) fn script(rt: &impl Print, text: &[u8]) -> io::Result<Script> {
     let mut s = Script::new();
     let mut at = 0;
     while at < text.len() {
         let end = next(text, at, b'\n');
         let line = &text[at..end];
         if !silent(line) {
-            s = append_line(s, line);
+            append_line(rt, &mut s, line)?;
         }
         if end == text.len() {
-            return s;
+            return Ok(s);
         }
         at = end + 1;
     }
-    s
+    Ok(s)
 }

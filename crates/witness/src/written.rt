@@ -5,6 +5,7 @@ ghost use Rattle.witness.specs.Witnessed.{witnessed_fields};
 use crate::Witnessed;
 use chart::{Fields, reply};
 
+#[tactic(auto, unfolding(crate::specs::Witnessed::witnessed_fields))]
 pub fn of_witnessed(w: Witnessed) -> Fields
     ensures { result ≡ witnessed_fields w }
 {

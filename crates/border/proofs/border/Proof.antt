@@ -21,17 +21,17 @@ turned : (c : tie.After-bad_directions)
 turned c = c.bad_directions.ensures ∙ turning-short _ (short-list _ (listed c.before.before.before))
 
 returns : tie.Need-returns-then-bad_list
-returns c = let a = traced-list _ _ _ (sym c.before.bad_list.ensures ∙ c.if-bad_list.true) in (a.answer, (a.letters-1, a.named))
+returns c = let a = traced-list _ _ _ (sym c.before.bad_list.ensures ∙ c.if-bad_list.true) in (a.answer, (a.letters, a.named))
 
 returns-2 : tie.Need-returns-then-bad_cell
 returns-2 c = let a = traced-anchor _ _ _ (listed c.before.before) (sym c.before.bad_cell.ensures ∙ c.if-bad_cell.true) in
-    (a.answer, (a.letters-1, a.named))
+    (a.answer, (a.letters, a.named))
 
 returns-3 : tie.Need-returns-then-bad_directions
 returns-3 c =
     let e = c.before.before in
     let a = traced-turning _ _ _ (listed e.before.before) (anchored e) (sym (turned c.before) ∙ c.if-bad_directions.true) in
-    (a.answer, (a.letters-1, a.named))
+    (a.answer, (a.letters, a.named))
 
 trace-requires : tie.Need-trace-requires
 trace-requires c κs =

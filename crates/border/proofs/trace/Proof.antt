@@ -2,7 +2,6 @@
 use native.Mathlib.Omega.{arith}
 use mathlib.Core.Path.{sym, ◌∙◌}
 use lib.Seq.{length-take-le}
-use borrow.Author.Tests.{not-true, not-false}
 use Rattle.polygon.proofs.LooseCases.{short-list}
 use Rattle.border_model.proofs.Quadrants.{passed-ordered}
 use Rattle.border.proofs.TraceLaws.{long-none, untaken-none, short_none, copied}
@@ -35,7 +34,7 @@ returns-2 c =
     let n = b.before.before.before in
     let s = n.before.before in
     untaken-none _ _ _ s.requires.0 s.requires.1 s.requires.2 n.count-n.ensures _ b.build.ensures (sym t.taken_as.ensures
-    ∙ not-true _ c.if-not-taken_as.true)
+    ∙ c.if-not-taken_as.true)
 
 returns-3 : tie.Need-returns-then-letters-n
 returns-3 c =
@@ -44,7 +43,7 @@ returns-3 c =
     let n = b.before.before.before in
     let s = n.before.before in
     short_none _ _ _ s.requires.0 s.requires.1 s.requires.2 n.count-n.ensures _ b.build.ensures (sym t.taken_as.ensures
-    ∙ not-false _ c.before.if-not-taken_as.false) c.if-letters-n.true
+    ∙ c.before.if-not-taken_as.false) c.if-letters-n.true
 
 returns-4 : tie.Need-returns
 returns-4 c =
@@ -55,7 +54,7 @@ returns-4 c =
     let n = b.before.before.before in
     let s = n.before.before in
     copied _ _ _ s.requires.0 s.requires.1 s.requires.2 n.count-n.ensures _ b.build.ensures (sym t.taken_as.ensures
-    ∙ not-false _ room.before.if-not-taken_as.false)
+    ∙ room.before.if-not-taken_as.false)
     room.if-letters-n.false d.copy.ensures
 
 pub trace_spec : {M : Type 1} → statement M

@@ -1,7 +1,7 @@
 -- The invariant: the letters up to the current column are written, and it lies between the two ends.
 use Prim.Native.Nat.{◌+◌, ◌-◌, ◌<◌}
 use mathlib.Core.Path.{◌≡◌, sym, ap}
-use mathlib.Core.Logic.{inl, inr}
+use Rattle.border_of_rows.proofs.across.Lts.{then-x-b, else-x-b}
 use mathlib.Core.List.{[], ◌∷◌}
 use lib.ListN.{length, length-append}
 use Rattle.completion.specs.RowsOutline.{across}
@@ -50,8 +50,8 @@ add-k c = omega (arith, room c.before)
 loop-less : tie.Need-loop-x-smaller invariant-loop decreases-loop
 loop-less c =
     elim c.if-x-b.branch [
-      | inl (l, d, e) ↦ omega (arith, e, l.taken)
-      | inr (l, d, e) ↦ omega (arith, e, l.left, c.before.loop-x-test.true)
+      | then-x-b w ↦ omega (arith, w.x-is, w.if-x-b.true)
+      | else-x-b w ↦ omega (arith, w.x-is, w.if-x-b.false, c.before.loop-x-test.true)
     ]
 
 loop-again : tie.Need-loop-x-preserved invariant-loop decreases-loop
@@ -62,16 +62,16 @@ loop-again c =
     let w = across args.a iteration.x in
     let here : iteration.k < length args.out.now = omega (arith, room t, iteration.invariant.2.sized) in
     elim c.if-x-b.branch [
-      | inl (l, d, e) ↦
-          let more = onward-more args.a args.b iteration.x iteration.invariant.0 l.taken in
-          rw (d, e) (
+      | then-x-b z ↦
+          let more = onward-more args.a args.b iteration.x iteration.invariant.0 z.if-x-b.true in
+          rw (z.out-is, z.x-is) (
             more.1,
             omega (arith, iteration.invariant.1, ap length more.0, length-append w (0 ∷ [])),
             wrote-same (sym more.0) (wrote-next iteration.invariant.2 iteration.k 0 iteration.invariant.1 here),
           )
-      | inr (l, d, e) ↦
-          let more = backward-more args.a args.b iteration.x iteration.invariant.0 (omega (arith, l.left, t.loop-x-test.true)) in
-          rw (d, e) (
+      | else-x-b z ↦
+          let more = backward-more args.a args.b iteration.x iteration.invariant.0 (omega (arith, z.if-x-b.false, t.loop-x-test.true)) in
+          rw (z.out-is, z.x-is) (
             more.1,
             omega (arith, iteration.invariant.1, ap length more.0, length-append w (2 ∷ [])),
             wrote-same (sym more.0) (wrote-next iteration.invariant.2 iteration.k 2 iteration.invariant.1 here),

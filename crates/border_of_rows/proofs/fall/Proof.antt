@@ -36,7 +36,7 @@ room :
     (c : tie.In-loop-i invariant-loop decreases-loop)
     → c.before.loop-i.k + suc
     (length (across (rows c.before.before.before.args.hi.now c.before.loop-i.i)
-    (rows c.before.before.before.args.hi.now (c.before.loop-i.i - 1)))) ≤ length c.before.loop-i.out-1
+    (rows c.before.before.before.args.hi.now (c.before.loop-i.i - 1)))) ≤ length c.before.loop-i.out
 room c =
     let s = c.before.before.before in
     let iteration = c.before.loop-i in
@@ -44,29 +44,29 @@ room c =
       arith,
       iteration.invariant.2,
       iteration.invariant.3,
-      length-set s.args.out-1.now s.args.at 3,
+      length-set s.args.out.now s.args.at 3,
       s.requires.2,
       fall-fits (rows s.args.hi.now) s.args.y iteration.i s.args.e c.loop-i-test.true iteration.invariant.1,
     )
 
 across-requires : tie.Need-across-k-requires invariant-loop decreases-loop
-across-requires c κs = omega (arith, room c.before.before.before)
+across-requires c κs = omega (arith, room c.before.before.before.before)
 
 slice-write-out-2 : tie.Need-bounds-out-k invariant-loop decreases-loop
 slice-write-out-2 c =
-    let t = c.before.before.before.before.before.before in
+    let t = c.before.before.before.before.before.before.before in
     let said = c.before.before.across-k.ensures in
     omega (arith, room t, said.0, said.1.sized)
 
 add-k-2 : tie.Need-overflow_add-k-in-loop-i invariant-loop decreases-loop
 add-k-2 c =
-    let t = c.before.before.before.before.before.before in
+    let t = c.before.before.before.before.before.before.before in
     let s = t.before.before.before in
-    omega (arith, room t, c.before.before.across-k.ensures.0, t.before.loop-i.invariant.3, length-set s.args.out-1.now s.args.at 3)
+    omega (arith, room t, c.before.before.across-k.ensures.0, t.before.loop-i.invariant.3, length-set s.args.out.now s.args.at 3)
 
 loop-again : tie.Need-loop-i-preserved invariant-loop decreases-loop
 loop-again c =
-    let t = c.before.before.before.before.before.before in
+    let t = c.before.before.before.before.before.before.before in
     let s = t.before.before.before in
     let hi = rows s.args.hi.now in
     let iteration = t.before.loop-i in
@@ -80,7 +80,7 @@ loop-again c =
       omega (arith, t.loop-i-test.true),
       omega (arith, iteration.invariant.1),
       omega (arith, e, ap length more, length-append (w ++ a) (3 ∷ [])),
-      length-set c.before.before.across-k.new.0 k 3 ∙ said.1.sized ∙ iteration.invariant.3,
+      length-set c.before.before.across-k.new.out k 3 ∙ said.1.sized ∙ iteration.invariant.3,
       λ before h.
           let written = iteration.invariant.4 before h in
           wrote-same (sym more)
@@ -89,13 +89,13 @@ loop-again c =
     )
 
 same_length : tie.Need-shape_of-out invariant-loop decreases-loop
-same_length c = c.before.loop-i.invariant.3 ∙ length-set c.before.before.before.args.out-1.now c.before.before.before.args.at 3
+same_length c = c.before.loop-i.invariant.3 ∙ length-set c.before.before.before.args.out.now c.before.before.before.args.at 3
 
 returns : tie.Need-returns invariant-loop decreases-loop
 returns c =
     let s = c.before.before.before in
     let iteration = c.before.loop-i in
-    let out = s.args.out-1.now in
+    let out = s.args.out.now in
     let at = s.args.at in
     let e : iteration.i ≡ s.args.y = omega (arith, iteration.invariant.0) in
     let w : descent (rows s.args.hi.now) iteration.i (s.args.e - iteration.i)

@@ -25,14 +25,14 @@ unfolding to_row
 loop-holds c =
     let args = c.before.args in
     let e : args.y - args.y ≡ 0 = omega arith in
-    rw e (omega arith, c.before.requires.0, omega arith, wrote_none args.out-1.now args.at)
+    rw e (omega arith, c.before.requires.0, omega arith, wrote_none args.out.now args.at)
 
 -- An iteration has room for one row
 room :
     (c : tie.In-loop-i invariant-loop decreases-loop)
     → c.before.loop-i.k + suc
     (length (across (rows c.before.before.before.args.lo.now c.before.loop-i.i)
-    (rows c.before.before.before.args.lo.now (c.before.loop-i.i + 1)))) ≤ length c.before.loop-i.out-1
+    (rows c.before.before.before.args.lo.now (c.before.loop-i.i + 1)))) ≤ length c.before.loop-i.out
 room c =
     let s = c.before.before.before in
     let iteration = c.before.loop-i in
@@ -52,11 +52,11 @@ add-across : tie.Need-overflow_add-k invariant-loop decreases-loop
 add-across c = omega (arith, room c.before)
 
 across-requires : tie.Need-across-k-requires invariant-loop decreases-loop
-across-requires c κs = simp length-set (omega (arith, room c.before.before.before))
+across-requires c κs = simp length-set (omega (arith, room c.before.before.before.before))
 
 loop-again : tie.Need-loop-i-preserved invariant-loop decreases-loop
 loop-again c =
-    let t = c.before.before.before.before.before.before in
+    let t = c.before.before.before.before.before.before.before in
     let s = t.before.before.before in
     let lo = rows s.args.lo.now in
     let iteration = t.before.loop-i in

@@ -36,7 +36,7 @@ abbrev last : tie.Start → List ℕ
 last s = to_row (left s) s.args.b (s.args.m - s.args.b)
 
 room : (s : tie.Start)
-    → length (first s) + 1 + length (top s) + length (fallen s) + length (bottom s) + length (last s) ≤ length s.args.out-1.now
+    → length (first s) + 1 + length (top s) + length (fallen s) + length (bottom s) + length (last s) ≤ length s.args.out.now
 room s = omega (arith, round-length (left s) (right s) s.args.b s.args.t s.args.m s.requires.0.1, s.requires.1)
 
 -- The letters up to each call
@@ -54,7 +54,7 @@ abbrev begun : tie.After-rise-up → tie.Start
 begun c = c.before.before.before
 
 abbrev risen : tie.After-across-over → tie.After-rise-up
-risen c = c.before.before.before.before.before.before
+risen c = c.before.before.before.before.before.before.before.before
 
 abbrev topped : tie.After-fall-down → tie.After-across-over
 topped c = c.before.before.before.before
@@ -78,12 +78,12 @@ abbrev start-5 : tie.After-rise → tie.Start
 start-5 c = start-4 (returned c)
 
 -- What is written after each call, and up to where
-up : (c : tie.After-rise-up) → Front (begun c).args.out-1.now (first (begun c)) c.rise-up.new.1.1.1.0 c.rise-up.result
+up : (c : tie.After-rise-up) → Front (begun c).args.out.now (first (begun c)) c.rise-up.new.out c.rise-up.result
 up c = let said = c.rise-up.ensures in record { at = omega (arith, said.0); wrote = said.1 }
 
 record Over (c : tie.After-across-over) : Type 0 where
   at : c.across-over.result ≡ (risen c).rise-up.result + 1 + length (top (start-2 c))
-  front : Front (start-2 c).args.out-1.now (as_top (start-2 c)) c.across-over.new.0 c.across-over.result
+  front : Front (start-2 c).args.out.now (as_top (start-2 c)) c.across-over.new.out c.across-over.result
 
 over : (c : tie.After-across-over) → Over c
 over c =
@@ -93,20 +93,20 @@ over c =
 
 record Down (c : tie.After-fall-down) : Type 0 where
   at : c.fall-down.result ≡ (topped c).across-over.result + length (fallen (start-3 c))
-  front : Front (start-3 c).args.out-1.now (as_fallen (start-3 c)) c.fall-down.new.1.1.1.0 c.fall-down.result
+  front : Front (start-3 c).args.out.now (as_fallen (start-3 c)) c.fall-down.new.out c.fall-down.result
 
 down : (c : tie.After-fall-down) → Down c
 down c = let said = c.fall-down.ensures in record { at = said.0; front = front-more (over (topped c)).front said.0 said.1 }
 
 record Back (c : tie.After-across-back) : Type 0 where
   at : c.across-back.result ≡ (descended c).fall-down.result + length (bottom (start-4 c))
-  front : Front (start-4 c).args.out-1.now (as_bottom (start-4 c)) c.across-back.new.0 c.across-back.result
+  front : Front (start-4 c).args.out.now (as_bottom (start-4 c)) c.across-back.new.out c.across-back.result
 
 back : (c : tie.After-across-back) → Back c
 back c = let said = c.across-back.ensures in record { at = said.0; front = front-more (down (descended c)).front said.0 said.1 }
 
 done : (c : tie.After-rise)
-    → Front (start-5 c).args.out-1.now (as_bottom (start-5 c) ++ last (start-5 c)) c.rise.new.1.1.1.0 c.rise.result
+    → Front (start-5 c).args.out.now (as_bottom (start-5 c) ++ last (start-5 c)) c.rise.new.out c.rise.result
 done c = let said = c.rise.ensures in front-more (back (returned c)).front said.0 said.1
 
 rise-requires : tie.Need-rise-up-requires
@@ -123,14 +123,14 @@ add-across c =
 
 across-requires : tie.Need-across-over-requires
 across-requires c κs =
-    let r = c.before.before.before.before.before in
-    omega (arith, room (begun r), (up r).at, (up r).wrote.sized, length-set r.rise-up.new.1.1.1.0 r.rise-up.result 1)
+    let r = c.before.before.before.before.before.before.before in
+    omega (arith, room (begun r), (up r).at, (up r).wrote.sized, length-set r.rise-up.new.out r.rise-up.result 1)
 
 fall-requires : tie.Need-fall-down-requires
 fall-requires c κs =
     let o = c.before.before.before in
     let s = start-2 o in
-    (omega (arith, s.pre), omega (arith, s.pre), omega (arith, room s, (over o).at, (over o).front.wrote.sized, (up (risen o)).at))
+    (omega (arith, s.requires), omega (arith, s.requires), omega (arith, room s, (over o).at, (over o).front.wrote.sized, (up (risen o)).at))
 
 across-requires-2 : tie.Need-across-back-requires
 across-requires-2 c κs =
@@ -144,8 +144,8 @@ rise-requires-2 c κs =
     let s = start-4 k in
     let d = descended k in
     let o = topped d in (
-      omega (arith, s.pre),
-      omega (arith, s.pre),
+      omega (arith, s.requires),
+      omega (arith, s.requires),
       omega (arith, room s, (back k).at, (back k).front.wrote.sized, (down d).at, (over o).at, (up (risen o)).at),
     )
 
@@ -155,7 +155,7 @@ same_length c = (done c.before.before).wrote.sized
 returns : tie.Need-returns
 returns c =
     let s = start-5 c.before.before in
-    wrote-front (wrote-same (round-parts (left s) (right s) s.args.b s.args.t s.args.m s.pre.0.1)
+    wrote-front (wrote-same (round-parts (left s) (right s) s.args.b s.args.t s.args.m s.requires.0.1)
     (done c.before.before).wrote)
 
 pub round_spec : {M : Type 1} → statement M

@@ -10,7 +10,6 @@ use mir.Syntax.{w16}
 use mir.Val.{SFits}
 use mir.ValLaws.{to_z-of_z}
 use borrow.Author.Rules.{rules}
-use borrow.Author.Tests.{not-true, not-false}
 use Rattle.convexity.specs.Edges.{Edge, pairs}
 use Rattle.edge_walk.specs.parts.Walk.{started}
 use Rattle.edge_walk.proofs.Loop.{edge_at}
@@ -49,7 +48,7 @@ further-is c = simp (to_z-of_z w16 _ (fits-x c.before.before), to_z-of_z w16 _ (
 
 -- The walk has passed the test of the current corner cell
 on : (c : tie.Else-not-on_chart invariant-loop decreases-loop) → is_on c.before.before.before.loop-i.at ≡ true
-on c = sym c.before.on_chart.ensures ∙ not-false _ c.if-not-on_chart.false
+on c = sym c.before.on_chart.ensures ∙ c.if-not-on_chart.false
 
 -- The whole walk starts at the anchor
 whole :
@@ -65,7 +64,7 @@ returns : tie.Need-returns-then-not-on_chart invariant-loop decreases-loop
 returns c =
     let l = c.before.before.before in
     sym (ap not (whole l.before
-    ∙ leaving-off l.loop-i.invariant (omega arith) (sym c.before.on_chart.ensures ∙ not-true _ c.if-not-on_chart.true)))
+    ∙ leaving-off l.loop-i.invariant (omega arith) (sym c.before.on_chart.ensures ∙ c.if-not-on_chart.true)))
 
 further-requires : tie.Need-further-at-requires invariant-loop decreases-loop
 further-requires c κs =

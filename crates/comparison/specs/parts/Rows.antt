@@ -8,8 +8,8 @@ use Rattle.nesting.specs.Cells.{Polygon}
 use Rattle.nesting.specs.Rows.{edge_from, edge_to}
 use Rattle.sweep.specs.parts.Sweep.{corner_from, corner_to, row_from, row_to}
 use Rattle.sweep.specs.parts.Tests.{run_within, runs_meet, rows_within, rows_apart}
-use Rattle.comparison.specs.declared.rows.EdgeAtRow.{EdgeAtRow}
-use Rattle.comparison.specs.declared.rows.Tests.{Tests}
+use Rattle.comparison.specs.declared.row_walk.EdgeAtRow.{EdgeAtRow}
+use Rattle.comparison.specs.declared.row_walk.Tests.{Tests}
 
 -- The edge from p to q at row r: its rows, and its side value at column 0 as a difference
 abbrev pub edge_at_row : Point → Point → ℕ → EdgeAtRow

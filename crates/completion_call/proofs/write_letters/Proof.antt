@@ -29,7 +29,7 @@ top d = d.wide-t.result
 below : (d : tie.After-wide-t) → (bottom d < top d) × (top d ≤ side)
 below d =
     let k = d.before.before.pass-sides.result in
-    array-below (drawn (begun d)) (begun d).requires k.lo k.en k.hi-1 k.low k.high (bottom d) (top d)
+    array-below (drawn (begun d)) (begun d).requires k.lo k.en k.hi k.low k.high (bottom d) (top d)
     d.before.before.pass-sides.ensures
     d.before.wide-b.ensures.0 d.wide-t.ensures.0
 
@@ -38,10 +38,10 @@ abbrev rowed : tie.After-lowest-east → tie.After-wide-t
 rowed c = c.before.before.before.before.before.before.before.before.before.before.before.before.before.before
 
 abbrev begins : tie.After-lowest-east → List ℕ
-begins c = c.before.before.before.before.before.before.before.before.before.before.before.left.new.0
+begins c = c.before.before.before.before.before.before.before.before.before.before.before.left.new.lo
 
 abbrev over : tie.After-lowest-east → List ℕ
-over c = c.before.before.before.before.before.before.left-2.new.0
+over c = c.before.before.before.before.before.before.left-2.new.lo
 
 abbrev ends : tie.After-lowest-east → List ℕ
 ends c = c.before.before.before.before.mirrored-ends.result
@@ -52,7 +52,7 @@ sided : (c : tie.After-lowest-east)
 sided c =
     let d = rowed c in
     let k = d.before.before.pass-sides.result in
-    sides (drawn (begun d)) (begun d).pre k.lo k.en k.hi-1 k.low k.high (bottom d) (top d) d.before.before.pass-sides.ensures
+    sides (drawn (begun d)) (begun d).requires k.lo k.en k.hi k.low k.high (bottom d) (top d) d.before.before.pass-sides.ensures
     d.before.wide-b.ensures.0
     d.wide-t.ensures.0 c.before.before.before.before.before.before.before.before.mirrored-over.result (begins c) (over c)
     (ends c) c.before.before.before.before.before.before.before.before.before.before.before.left.ensures
@@ -73,7 +73,7 @@ hull : (c : tie.After-wide-columns)
 hull c =
     let l = c.before in
     let d = reached c in
-    hull-of (drawn (begun d)) (begun d).pre (begins l) (over l) (ends l) (bottom d) (top d) l.before.before.lowest-west.result
+    hull-of (drawn (begun d)) (begun d).requires (begins l) (over l) (ends l) (bottom d) (top d) l.before.before.lowest-west.result
     l.lowest-east.result (count c) (sided l)
     l.before.before.lowest-west.ensures l.lowest-east.ensures (ap (λ (n : ℕ). 2 * (top d - bottom d) + 2 * n) c.wide-columns.ensures.0)
 
@@ -104,7 +104,7 @@ array-read-wide-2 c = omega (arith, below (rowed c), c.lowest-east.ensures.high,
 sub_wide : tie.Need-overflow_sub-ends
 sub_wide c =
     let d = rowed c in
-    sided-gap (drawn (begun d)) (begun d).pre (rows (begins c)) (rows (over c)) (rows (ends c)) (bottom d) (top d) (sided c)
+    sided-gap (drawn (begun d)) (begun d).requires (rows (begins c)) (rows (over c)) (rows (ends c)) (bottom d) (top d) (sided c)
     c.before.before.lowest-west.result c.before.before.lowest-west.ensures c.lowest-east.result c.lowest-east.ensures
 
 sub-count : tie.Need-overflow_sub-count
@@ -123,14 +123,14 @@ returns : tie.Need-returns-then-out-count
 returns c =
     let w = c.before in
     let s = begun (reached w) in
-    hull-short (drawn s) s.args.out-1.now s.pre (hull w) c.if-out-count.true
+    hull-short (drawn s) s.args.out.now s.requires (hull w) c.if-out-count.true
 
 round-requires : tie.Need-round-requires
 round-requires c κs =
     let w = c.before.before.before.before in
     let s = begun (reached w) in
     let f = hull w in
-    ((f.low, f.high, f.fits), hull-room (drawn s) s.args.out-1.now s.pre f c.before.before.before.if-out-count.false)
+    ((f.low, f.high, f.fits), hull-room (drawn s) s.args.out.now s.requires f c.before.before.before.if-out-count.false)
 
 mul-t33 : tie.Need-offset_bounds-begins-west-2
 mul-t33 c = let f = hull c.before.before.before.before.before.before.before in omega (arith, f.high, f.fits, f.short)
@@ -148,7 +148,7 @@ returns-2 : tie.Need-returns
 returns-2 c =
     let w = c.before.before.before.before.before.before.before in
     let s = begun (reached w) in
-    hull-answers (drawn s) s.args.out-1.now s.pre (hull w) _ c.before.before.before.before.before.before.if-out-count.false
+    hull-answers (drawn s) s.args.out.now s.requires (hull w) _ c.before.before.before.before.before.before.if-out-count.false
     c.before.before.round.ensures
 
 pub write_letters_spec : {M : Type 1} → statement M

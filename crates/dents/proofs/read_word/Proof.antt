@@ -103,7 +103,7 @@ loop-again : tie.Need-loop-at-preserved invariant-loop decreases-loop
 loop-again c =
     let seen = c.before.before.before.before.before.before.before.before.before.before in
     let e = c.before.before.before.before.before.edge_of-e in
-    let read = e.type-inv.1.1 in
+    let read = e.type_inv.1.1 in
     tracing-edge seen.before.before.loop-at.invariant seen.before.before.before.before.before.requires seen.before.loop-at-test.true
     (judged-rest seen)
     (not-false _ c.before.before.before.before.before.before.before.before.if-not-f.false)
@@ -112,7 +112,7 @@ loop-again c =
       to_z-of_z w16 e.result.dx (record { sfits = read.0.1 }),
       to_z-of_z w16 e.result.dy (record { sfits = read.1.0.1 }),
     ) at c.before.put-count.ensures)
-    c.before.put-count.auto.0
+    c.before.put-count.auto.list
 
 returns-2 : tie.Need-returns invariant-loop decreases-loop
 returns-2 c = tracing-end c.before.loop-at.invariant c.loop-at-test.false

@@ -13,5 +13,5 @@ pub record Steps (run : ℕ) (earlier : ℤ) (rise : ℕ) (later : ℤ) : Type 0
 
 -- The edge of a run and a rise
 pub record EdgeOf (f : Frame) (run rise : ℕ) (r : Edge) : Type 0 where
-  pub dx : r.dx ≡ pos run *ℤ f.earlier-cols +ℤ pos rise *ℤ f.later-cols
-  pub dy : r.dy ≡ pos run *ℤ f.earlier-rows +ℤ pos rise *ℤ f.later_rows
+  pub dx : r.dx ≡ pos run *ℤ f.earlier_cols +ℤ pos rise *ℤ f.later_cols
+  pub dy : r.dy ≡ pos run *ℤ f.earlier_rows +ℤ pos rise *ℤ f.later_rows

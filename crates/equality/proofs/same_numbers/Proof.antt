@@ -8,7 +8,6 @@ use mir.Val.{SFits}
 use mir.Syntax.{w16}
 use mir.ValLaws.{to_z-of_z}
 use borrow.Author.Rules.{rules}
-use borrow.Author.Tests.{not-true, not-false}
 use Rattle.base.specs.Same.{sameℤ, sameℤs}
 use Rattle.base.proofs.Same.{same-longer, same_next, same-differ, same_end}
 use Rattle.equality.proofs.same_numbers.Statement.{statement}
@@ -51,7 +50,7 @@ returns-2 c =
     let n = c.before in
     sym ((at n).loop-i.invariant.1 ∙
     same-differ _ _ (at n).loop-i.i c.before.before.before.before.loop-i-test.true (at n).before.if-a-b.false (sym (compared n)
-    ∙ not-true _ c.if-not-same_number.true))
+    ∙ c.if-not-same_number.true))
 
 loop-again : tie.Need-loop-i-preserved invariant-loop decreases-loop
 loop-again c =
@@ -59,7 +58,7 @@ loop-again c =
       omega arith,
       (at n).loop-i.invariant.1 ∙
           same_next _ _ (at n).loop-i.i c.before.before.before.before.loop-i-test.true (at n).before.if-a-b.false (sym (compared n)
-          ∙ not-false _ c.if-not-same_number.false),
+          ∙ c.if-not-same_number.false),
     )
 
 returns-3 : tie.Need-returns invariant-loop decreases-loop

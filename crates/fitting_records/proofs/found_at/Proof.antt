@@ -4,7 +4,6 @@ use native.Mathlib.Omega.{arith}
 use mathlib.Core.Path.{sym, ◌∙◌}
 use lib.ListN.{length, drop, length-drop}
 use lib.Seq.{drop-drop}
-use borrow.Author.Tests.{not-true, not-false}
 use Rattle.fitting_records.proofs.FoundLaws.{marked-two, found-end, found-unmarked, found-marked}
 use borrow.Author.Rules.{rules}
 use Rattle.fitting_records.proofs.found_at.Statement.{statement}
@@ -17,19 +16,19 @@ returns-2 : tie.Need-returns-then-not-is_marked
 returns-2 c =
     let a = c.before.before.before.before.args in
     let some : 0 < length (drop a.at a.file.now) = simp length-drop (omega (arith, c.before.before.if-file-at.false)) in
-    sym (found-unmarked _ some (sym c.before.is_marked.ensures ∙ not-true _ c.if-not-is_marked.true))
+    sym (found-unmarked _ some (sym c.before.is_marked.ensures ∙ c.if-not-is_marked.true))
 
 after-mark-requires : tie.Need-after_mark-requires
 after-mark-requires c κs =
     let a = c.before.before.before.before.args in
-    let two : 2 ≤ length (drop a.at a.file.now) = marked-two _ (sym c.before.is_marked.ensures ∙ not-false _ c.if-not-is_marked.false) in
+    let two : 2 ≤ length (drop a.at a.file.now) = marked-two _ (sym c.before.is_marked.ensures ∙ c.if-not-is_marked.false) in
     omega (arith, simp length-drop at two)
 
 returns-3 : tie.Need-returns
 returns-3 c =
     let else2 = c.before in
     let a = else2.before.before.before.before.args in
-    let mark = sym else2.before.is_marked.ensures ∙ not-false _ else2.if-not-is_marked.false in
+    let mark = sym else2.before.is_marked.ensures ∙ else2.if-not-is_marked.false in
     c.after_mark.ensures ∙ sym (found-marked _ mark ∙ rw (drop-drop 2 a.at a.file.now))
 
 pub found_at_spec : {M : Type 1} → statement M

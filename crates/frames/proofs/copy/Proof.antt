@@ -23,7 +23,7 @@ abbrev start : Iteration → tie.Start invariant-loop decreases-loop
 start t = t.before.before
 
 more : (t : Iteration) → t.before.loop-i.i < length (start t).args.from.now
-more t = omega (arith, t.loop-i-test.taken)
+more t = omega (arith, t.loop-i-test.true)
 
 -- The buffer keeps its length
 kept : (c : tie.At-loop-i invariant-loop decreases-loop) → length c.loop-i.to ≡ length c.before.args.to.now
@@ -52,10 +52,10 @@ shared-slice-read-to : tie.Need-bounds-from-i invariant-loop decreases-loop
 shared-slice-read-to c = omega (arith, more c.before)
 
 slice-write-to : tie.Need-bounds-to-k invariant-loop decreases-loop
-slice-write-to c = omega (arith, kept c.before.before, more c.before, (start c.before).pre)
+slice-write-to c = omega (arith, kept c.before.before, more c.before, (start c.before).requires)
 
 add-i : tie.Need-overflow_add-i invariant-loop decreases-loop
-add-i c = omega (arith, more c.before, (start c.before).pre)
+add-i c = omega (arith, more c.before, (start c.before).requires)
 
 loop-less : tie.Need-loop-i-smaller invariant-loop decreases-loop
 loop-less c = omega (arith, more c.before)

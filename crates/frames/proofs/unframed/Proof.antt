@@ -4,9 +4,8 @@ use native.Mathlib.Omega.{arith}
 use mathlib.Core.Path.{◌≡◌, sym, ap, ◌∙◌}
 use mathlib.Core.Bool.{true, false}
 use mathlib.Core.List.{List, ◌++◌}
-use lib.ListN.{length, take, drop, length-take}
+use lib.ListN.{length, take, drop}
 use borrow.Author.Rules.{rules}
-use borrow.Author.Tests.{not-true, not-false}
 use Rattle.chart.specs.Fields.{placed}
 use Rattle.frames.specs.Frame.{header_bytes, frame_bytes, body_in, is_frame}
 use Rattle.frames.proofs.Frames.{body-count, pasted-front}
@@ -15,10 +14,10 @@ use Rattle.frames.proofs.unframed.Statement.{statement}
 use Rattle.frames.proofs.unframed.Tie as tie
 
 none : (c : tie.Then-not-is_frame) → is_frame c.before.before.before.before.args.frame.now ≡ false
-none c = sym c.before.is_frame.ensures ∙ not-true _ c.if-not-is_frame.true
+none c = sym c.before.is_frame.ensures ∙ c.if-not-is_frame.true
 
 some : (c : tie.Else-not-is_frame) → is_frame c.before.before.before.before.args.frame.now ≡ true
-some c = sym c.before.is_frame.ensures ∙ not-false _ c.if-not-is_frame.false
+some c = sym c.before.is_frame.ensures ∙ c.if-not-is_frame.false
 
 -- The part that is copied is the body
 part : (f : List ℕ) → frame_bytes ≤ length f → take (length f - frame_bytes + header_bytes - header_bytes) (drop header_bytes f) ≡ body_in f
@@ -65,7 +64,7 @@ returns-3 c =
     let k = body-count _ e in
     let s = two.before.before.before.before.before in
     let f = s.args.frame.now in
-    let l = s.args.body-1.now in
+    let l = s.args.body.now in
     let room = two.if-body-n.false in (
       c.placed.ensures ∙ ap (placed 0) (sym k.0) ∙ sym (unframed-done f e (length l) (omega (arith, k, room))),
       copied.copy.ensures ∙ pasted-front l (take (length f - frame_bytes + header_bytes - header_bytes) (drop header_bytes f))

@@ -24,7 +24,7 @@ returns : tie.Need-returns-then-rows-at invariant-loop decreases-loop
 returns c =
     let at = c.before.before.before.before in
     let a = at.before.before.args in
-    let same = same-window a.own.now a.rows.now a.at at.before.all-1.given.0 at.before.before.requires in
+    let same = same-window a.own.now a.rows.now a.at at.before.all-1.given at.before.before.requires in
     (λ e. absurd (true≢false (sym e)), λ h. absurd (c.if-rows-at.true (same h at.loop-i.i (omega arith))))
 
 loop-again : tie.Need-loop-i-preserved invariant-loop decreases-loop
@@ -36,7 +36,7 @@ returns-2 : tie.Need-returns invariant-loop decreases-loop
 returns-2 c =
     let at = c.before in
     let a = at.before.before.args in (
-      λ e. window_same a.own.now a.rows.now a.at at.before.all-1.given.0 at.before.before.requires
+      λ e. window_same a.own.now a.rows.now a.at at.before.all-1.given at.before.before.requires
           (λ k l. at.loop-i.invariant.1 k (omega arith)),
       λ h. refl,
     )

@@ -17,8 +17,8 @@ returns c =
       λ l r. done-by _ _ _ _ (answered.piece-answer.ensures l r) _ (c.put.ensures ∙ ap numbers_of fields.of_reply.ensures),
       (
         λ l r. point-by _ _ _ _ (answered.piece-answer.ensures l r) _ read.piece_in.ensures _ _ wrote.write_point.ensures,
-        piece-told _ _ _ _ _ _ (answered.piece-answer.ensures [] []) _ fields.of_reply.ensures (omega (arith, fields.of_reply.type-inv))
-            (omega (arith, fields.of_reply.type-inv)) _ read.piece_in.ensures _ _ wrote.write_point.ensures _ c.put.ensures,
+        piece-told _ _ _ _ _ _ (answered.piece-answer.ensures [] []) _ fields.of_reply.ensures (omega (arith, fields.of_reply.type_inv))
+            (omega (arith, fields.of_reply.type_inv)) _ read.piece_in.ensures _ _ wrote.write_point.ensures _ c.put.ensures,
       ),
     )
 

@@ -1,7 +1,7 @@
 -- The invariant: among the rows so far, the current one is the lowest of those that begin furthest left.
 use Prim.Native.Nat.{ℕ, ◌-◌, ◌≤◌, ◌<◌}
 use mathlib.Core.Path.{◌≡◌, subst}
-use mathlib.Core.Logic.{inl, inr}
+use Rattle.hull_rows.proofs.lowest.Lts.{then-lo-r, else-lo-r}
 use Rattle.rows.specs.parts.Rows.{rows}
 use Rattle.hull_rows.specs.parts.Ends.{Lowest}
 use Rattle.hull_rows.proofs.Laws.{lowest_start, lowest-moves, lowest-stays}
@@ -25,8 +25,8 @@ loop-again c =
     let b = c.before.before.before.before.before.args.b in
     let kept = iteration.invariant.2 in
     elim c.if-lo-r.branch [
-      | inl (l, e) ↦ (omega arith, omega arith, rw e (lowest-moves lo b iteration.r iteration.m kept l.taken))
-      | inr (l, e) ↦ (omega arith, omega arith, rw e (lowest-stays lo b iteration.r iteration.m kept l.left))
+      | then-lo-r w ↦ (omega arith, omega arith, rw w.m-is (lowest-moves lo b iteration.r iteration.m kept w.if-lo-r.true))
+      | else-lo-r w ↦ (omega arith, omega arith, rw w.m-is (lowest-stays lo b iteration.r iteration.m kept w.if-lo-r.false))
     ]
 
 returns : tie.Need-returns invariant-loop decreases-loop

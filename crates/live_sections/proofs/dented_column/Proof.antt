@@ -27,14 +27,14 @@ returns c =
     let tested = c.before in
     let section = tested.before in
     found-dented (column-at _ 0 _ section.column-last.ensures) (none_before _) (omega arith) _ (clear-is _ _ tested.is_clear.ensures)
-    c.if-not-is_clear.true
+    (rw c.if-not-is_clear.true)
 
 loop-holds : tie.Need-loop-col-init invariant-loop decreases-loop
 loop-holds c =
     let tested = c.before in
     let section = tested.before in
     found-clear (column-at _ 0 _ section.column-last.ensures) (none_before _) (omega arith) _ (clear-is _ _ tested.is_clear.ensures)
-    c.if-not-is_clear.false
+    (rw c.if-not-is_clear.false)
 
 column-requires-2 : tie.Need-column-section-requires invariant-loop decreases-loop
 column-requires-2 c κs =
@@ -53,7 +53,7 @@ returns-2 c =
     let section = tested.before in
     let at = section.before.before.loop-col in
     found-dented (column-at _ at.col _ section.column-section.ensures) at.invariant.none (omega arith) _ tested.clear_after.ensures
-    c.if-not-clear_after.true
+    (rw c.if-not-clear_after.true)
 
 loop-again : tie.Need-loop-col-preserved invariant-loop decreases-loop
 loop-again c =
@@ -61,7 +61,7 @@ loop-again c =
     let section = tested.before in
     let at = section.before.before.loop-col in
     found-clear (column-at _ at.col _ section.column-section.ensures) at.invariant.none (omega arith) _ tested.clear_after.ensures
-    c.if-not-clear_after.false
+    (rw c.if-not-clear_after.false)
 
 returns-3 : tie.Need-returns invariant-loop decreases-loop
 unfolding dented_column

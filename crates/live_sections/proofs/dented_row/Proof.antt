@@ -23,13 +23,13 @@ unfolding dented_row
 returns c =
     let tested = c.before in
     found-dented (row_at _ 0 _ tested.before.row-last.ensures) (none_before _) (omega arith) _ (clear-is _ _ tested.is_clear.ensures)
-    c.if-not-is_clear.true
+    (rw c.if-not-is_clear.true)
 
 loop-holds : tie.Need-loop-r-init invariant-loop decreases-loop
 loop-holds c =
     let tested = c.before in
     found-clear (row_at _ 0 _ tested.before.row-last.ensures) (none_before _) (omega arith) _ (clear-is _ _ tested.is_clear.ensures)
-    c.if-not-is_clear.false
+    (rw c.if-not-is_clear.false)
 
 row-requires-2 : tie.Need-row-section-requires invariant-loop decreases-loop
 row-requires-2 c κs = (omega arith, c.before.before.before.before.before.before.requires)
@@ -46,7 +46,7 @@ returns-2 c =
     let section = tested.before in
     let at = section.before.before.loop-r in
     found-dented (row_at _ at.r _ section.row-section.ensures) at.invariant.none (omega arith) _ tested.clear_after.ensures
-    c.if-not-clear_after.true
+    (rw c.if-not-clear_after.true)
 
 loop-again : tie.Need-loop-r-preserved invariant-loop decreases-loop
 loop-again c =
@@ -54,7 +54,7 @@ loop-again c =
     let section = tested.before in
     let at = section.before.before.loop-r in
     found-clear (row_at _ at.r _ section.row-section.ensures) at.invariant.none (omega arith) _ tested.clear_after.ensures
-    c.if-not-clear_after.false
+    (rw c.if-not-clear_after.false)
 
 returns-3 : tie.Need-returns invariant-loop decreases-loop
 unfolding dented_row

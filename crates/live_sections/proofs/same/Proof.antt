@@ -29,8 +29,8 @@ returns c =
     let end : at.l ≡ layers = omega arith in
     let (a, b) = c.before.before.before.before.before.before.requires in
     λ e.
-    section-eq (agree-end _ _ a.lo-1 b.lo-1 (rw end at (at.invariant.1 e).0))
-    (agree-end _ _ a.past-1 b.past-1 (rw end at (at.invariant.1 e).1))
+    section-eq (agree-end _ _ a.lo b.lo (rw end at (at.invariant.1 e).0))
+    (agree-end _ _ a.past b.past (rw end at (at.invariant.1 e).1))
 
 pub same_spec : {M : Type 1} → statement M
 same_spec =

@@ -12,7 +12,7 @@ use Rattle.loose_reading.proofs.read.Tie as tie
 
 held : (s : tie.Start) → Held (record { angle = s.args.angle; load = s.args.load })
 held s =
-    record { angle = subst T (sym s.well-formed.1.1.0.1) tt; load = subst T (sym s.well-formed.1.1.1.0.1) tt }
+    record { angle = subst T (sym s.well_formed.1.1.0.1) tt; load = subst T (sym s.well_formed.1.1.1.0.1) tt }
 
 returns : tie.Need-returns
 returns c =

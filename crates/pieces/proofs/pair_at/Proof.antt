@@ -17,14 +17,14 @@ row f =
     record {
       earlier = f.earlier;
       later = f.later;
-      earlier_cols = f.earlier-cols;
-      earlier_rows = f.earlier-rows;
-      later_cols = f.later-cols;
-      later_rows = f.later-rows;
+      earlier_cols = f.earlier_cols;
+      earlier_rows = f.earlier_rows;
+      later_cols = f.later_cols;
+      later_rows = f.later_rows;
     }
 
 row_of : (f : Frame) → PairOf f (row f)
-row_of f = record { earlier = refl; later = refl; earlier-cols = refl; earlier-rows = refl; later-cols = refl; later-rows = refl }
+row_of f = record { earlier = refl; later = refl; earlier_cols = refl; earlier_rows = refl; later_cols = refl; later_rows = refl }
 
 -- A table of four rows
 table_at :

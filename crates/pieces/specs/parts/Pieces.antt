@@ -10,9 +10,9 @@ use Rattle.pieces.specs.declared.Pair.{Pair}
 pub record PairOf (f : Frame) (r : Pair) : Type 0 where
   pub earlier : r.earlier ≡ f.earlier
   pub later : r.later ≡ f.later
-  pub earlier-cols : r.earlier_cols ≡ f.earlier-cols
-  pub earlier-rows : r.earlier_rows ≡ f.earlier-rows
-  pub later-cols : r.later_cols ≡ f.later-cols
+  pub earlier_cols : r.earlier_cols ≡ f.earlier_cols
+  pub earlier_rows : r.earlier_rows ≡ f.earlier_rows
+  pub later_cols : r.later_cols ≡ f.later_cols
   pub later_rows : r.later_rows ≡ f.later_rows
 
 -- The pieces of a border o lie in a buffer between the cut places (contract 3.3)

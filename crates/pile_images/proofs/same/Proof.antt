@@ -35,7 +35,7 @@ returns-2 : tie.Need-returns invariant-loop decreases-loop
 returns-2 c =
     let at = c.before in
     let a = at.before.before.args in (
-      λ e. ext_get_or 0 a.part.now a.own.now (at.before.before.requires ∙ sym at.before.all-1.given.0)
+      λ e. ext_get_or 0 a.part.now a.own.now (at.before.before.requires ∙ sym at.before.all-1.given)
           (λ k l. at.loop-i.invariant.1 k (omega (arith, at.before.before.requires))),
       λ h. refl,
     )

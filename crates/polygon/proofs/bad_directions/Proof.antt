@@ -1,6 +1,5 @@
 -- The invariant: refusal 16 for the remaining edges, with the corner cell so far, is refusal 16 for all.
 use borrow.Author.Rules.{rules}
-use borrow.Author.Tests.{not-true, not-false}
 use Prim.Native.Nat.{◌-◌}
 use native.Mathlib.Omega.{arith}
 use mathlib.Core.Path.{◌≡◌, sym, ap, ◌∙◌}
@@ -55,7 +54,7 @@ further-is c = simp (to_z-of_z w16 _ (fits-x c.before.before), to_z-of_z w16 _ (
 col-read : (c : tie.After-long invariant-loop decreases-loop) → to_z w64 (of_z w64 c.long.result) ≡ c.before.before.before.loop-i.at.col
 col-read c =
     let told = c.before in
-    read_back _ c.long.type-inv ∙ c.long.ensures
+    read_back _ c.long.type_inv ∙ c.long.ensures
     ∙ to_z-of_z w32 told.before.before.loop-i.at.col (record { sfits = told.struct_told-1.given.0.1 })
 
 row_read : (c : tie.After-long-else-not-is_zero invariant-loop decreases-loop)
@@ -63,7 +62,7 @@ row_read : (c : tie.After-long-else-not-is_zero invariant-loop decreases-loop)
 row_read c =
     let told = c.before in
     let l = told.before.before.before.before.before.before in
-    read_back _ c.long-else-not-is_zero.type-inv ∙ c.long-else-not-is_zero.ensures ∙ to_z-of_z w32 l.loop-i.at.row (record { sfits = told.struct_told-else-not-is_zero-1.given.1.0.1 })
+    read_back _ c.long-else-not-is_zero.type_inv ∙ c.long-else-not-is_zero.ensures ∙ to_z-of_z w32 l.loop-i.at.row (record { sfits = told.struct_told-else-not-is_zero-1.given.1.0.1 })
 
 -- For a list that is not too long the definition is refusal 16, which the corner cell decides at the end
 decided :
@@ -89,7 +88,7 @@ returns-2 : tie.Need-returns-then-not-turns_on invariant-loop decreases-loop
 returns-2 c =
     let t = c.before.before in
     sym (turning-short (list t) (omega arith)
-    ∙ turned-off t.before.loop-i.invariant (omega arith) (sym c.before.turns_on.ensures ∙ not-true _ c.if-not-turns_on.true))
+    ∙ turned-off t.before.loop-i.invariant (omega arith) (sym c.before.turns_on.ensures ∙ c.if-not-turns_on.true))
 
 further-requires : tie.Need-further-at-requires invariant-loop decreases-loop
 further-requires c κs =
@@ -101,17 +100,17 @@ loop-again : tie.Need-loop-i-preserved invariant-loop decreases-loop
 loop-again c =
     let on = c.before.before.before in
     let t = on.before.before in
-    let turned = sym on.before.turns_on.ensures ∙ not-false _ on.if-not-turns_on.false in
+    let turned = sym on.before.turns_on.ensures ∙ on.if-not-turns_on.false in
     rw (further-is c) (turned-edge t.before.loop-i.invariant (omega arith) (fits-x c.before.before) (fits-y c.before) turned)
 
 returns-3 : tie.Need-returns-then-not-is_zero invariant-loop decreases-loop
 returns-3 c =
-    c.if-not-is_zero.true ∙ sym (decided c.before ∙ rw (sym (zero-col c.before) ∙ not-true _ c.if-not-is_zero.true))
+    ap not c.if-not-is_zero.true ∙ sym (decided c.before ∙ rw (sym (zero-col c.before) ∙ c.if-not-is_zero.true))
 
 returns-4 : tie.Need-returns-else-not-is_zero invariant-loop decreases-loop
 returns-4 c =
     let one = c.before.before.before in
-    sym (decided one.before ∙ rw (sym (zero-col one.before) ∙ not-false _ one.if-not-is_zero.false) (ap not (sym (zero_row c))))
+    sym (decided one.before ∙ rw (sym (zero-col one.before) ∙ one.if-not-is_zero.false) (ap not (sym (zero_row c))))
 
 pub bad_directions_spec : {M : Type 1} → statement M
 bad_directions_spec =

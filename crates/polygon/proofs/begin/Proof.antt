@@ -10,7 +10,7 @@ use Rattle.polygon.proofs.begin.Tie as tie
 returns : tie.Need-returns
 unfolding begun
 returns c =
-    simp (read_back c.long-at.result c.long-at.type-inv) (simp (c.long-at.ensures, to_z-of_z w32 c.before.args.n c.before.ranges.n))
+    simp (read_back c.long-at.result c.long-at.type_inv) (simp (c.long-at.ensures, to_z-of_z w32 c.before.args.n c.before.ranges.n))
 
 pub begin_spec : {M : Type 1} → statement M
 begin_spec = tie.close (tie.spec (λ c κs. search rules) returns)

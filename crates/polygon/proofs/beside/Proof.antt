@@ -21,7 +21,7 @@ up s = s.args.dx *ℤ (pos s.args.cell.row -ℤ s.args.at.row)
 across-read : (c : tie.After-moment-across) → to_z w64 (of_z w64 c.moment-across.result) ≡ across c.before.before
 across-read c =
     let s = c.before.before in
-    read_back c.moment-across.result c.moment-across.type-inv
+    read_back c.moment-across.result c.moment-across.type_inv
     ∙ simp (
       to_z-of_z w16 s.args.dy s.ranges.dy,
       to_z-of_z w32 s.args.at.col (record { sfits = c.before.struct_told-1.given.0.1 }),
@@ -31,7 +31,7 @@ across-read c =
 up-read : (c : tie.After-moment-up) → to_z w64 (of_z w64 c.moment-up.result) ≡ up c.before.before.before.before
 up-read c =
     let s = c.before.before.before.before in
-    read_back c.moment-up.result c.moment-up.type-inv
+    read_back c.moment-up.result c.moment-up.type_inv
     ∙ simp (
       to_z-of_z w16 s.args.dx s.ranges.dx,
       to_z-of_z w32 s.args.at.row (record { sfits = c.before.struct_told-2-1.given.1.0.1 }),

@@ -9,7 +9,6 @@ use mir.Syntax.{w16, w32}
 use mir.Val.{SFits}
 use mir.ValLaws.{to_z-of_z}
 use borrow.Author.Rules.{rules}
-use borrow.Author.Tests.{not-true, not-false}
 use Rattle.convexity.specs.Edges.{Edge, pairs}
 use Rattle.convexity.specs.Inside.{not_negative, side_value}
 use Rattle.edge_walk.specs.declared.Corner.{Corner}
@@ -115,7 +114,7 @@ loop-holds c =
     record {
       short = omega arith;
       passed = omega arith;
-      near = rw (started-is c).0 (after-start s.args.anchor (omega (arith, s.well-formed.0)) (omega (arith, s.well-formed.0)) 0);
+      near = rw (started-is c).0 (after-start s.args.anchor (omega (arith, s.well_formed.0)) (omega (arith, s.well_formed.0)) 0);
       left = refl;
     }
 
@@ -123,7 +122,7 @@ returns-2 : tie.Need-returns-then-not-beside invariant-loop decreases-loop
 returns-2 c =
     let t = c.before.before.before.before in
     sym (rule t.before.before
-    ∙ walked-outside t.before.loop-i.invariant (omega arith) (sym (beside-is c.before) ∙ not-true _ c.if-not-beside.true))
+    ∙ walked-outside t.before.loop-i.invariant (omega arith) (sym (beside-is c.before) ∙ c.if-not-beside.true))
 
 further-requires : tie.Need-further-at-requires invariant-loop decreases-loop
 further-requires c κs =
@@ -139,7 +138,7 @@ loop-again c =
     let f = c.before.before.before.before in
     let dy = f.before.before.before in
     let t = dy.before.before in
-    let inward = sym (beside-is f.before.before) ∙ not-false _ f.before.if-not-beside.false in
+    let inward = sym (beside-is f.before.before) ∙ f.before.if-not-beside.false in
     rw (
       cols-are c.before.before,
       rows_are c,

@@ -1,7 +1,6 @@
 -- Each return is a case of the definition, by the tests before it.
 use borrow.Author.Rules.{rules}
 use mathlib.Core.Path.{◌≡◌, sym, ap, ◌∙◌}
-use mathlib.Core.Logic.{⊎_elim}
 use mathlib.Core.Bool.{Bool, false, cond}
 use Rattle.chart.specs.declared.Position.TheVariants.{Inside, Outside, Refused}
 use Rattle.chart.specs.declared.Refusal.TheVariants.{Cell}
@@ -11,6 +10,7 @@ use Rattle.polygon.proofs.LooseCases.{inside-short, short-list, turning-short, l
 use Rattle.polygon.proofs.LooseCases.{loose-edges}
 use Rattle.polygon.proofs.LooseHull.{answer-named}
 use Rattle.polygon.proofs.loose_query.Statement.{statement}
+use Rattle.polygon.proofs.loose_query.Lts.{then-bad_cell-via-then-bad_cell, then-bad_cell-via-else-bad_cell+then-bad_cell-2}
 use Rattle.polygon.proofs.loose_query.Tie as tie
 
 returns : tie.Need-returns-then-bad_list
@@ -18,13 +18,13 @@ returns c = answer-named _ _ _ _ (loose-list _ _ _ (sym c.before.bad_list.ensure
 
 returns-2 : tie.Need-returns-then-bad_cell
 returns-2 c =
-    let s = c.before.before.before.before.args in
     let listed = sym c.before.before.before.bad_list.ensures ∙ c.before.before.if-bad_list.false in
     answer-named _ _ _ _
-    (⊎_elim {C = Refused Cell ≡ loose_of s.anchor s.edges.now s.cell}
-    (λ w. loose-anchor _ _ _ listed (sym c.before.bad_cell.ensures ∙ w.taken))
-    (λ w. loose-cell _ _ _ listed (sym c.before.bad_cell.ensures ∙ w.0.left) (sym w.1.ensures ∙ w.2.taken))
-    c.if-bad_cell.branch)
+    (elim c.then-bad_cell.branch [
+      | then-bad_cell-via-then-bad_cell w ↦ loose-anchor _ _ _ listed (sym c.before.bad_cell.ensures ∙ w.if-bad_cell.true)
+      | then-bad_cell-via-else-bad_cell+then-bad_cell-2 w ↦
+          loose-cell _ _ _ listed (sym c.before.bad_cell.ensures ∙ w.if-bad_cell.false) (sym w.bad_cell-else-bad_cell.ensures ∙ w.if-bad_cell-2.true)
+    ])
 
 -- The list and the two cells pass 10 and 11
 module _ (c : tie.Else-bad_cell-2) where

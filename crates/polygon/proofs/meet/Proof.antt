@@ -12,7 +12,7 @@ use Rattle.polygon.proofs.meet.Tie as tie
 
 -- The machine keeps the value of the number
 at_read : (c : tie.After-long-at) → to_z w64 (of_z w64 c.long-at.result) ≡ c.before.args.n
-at_read c = read_back c.long-at.result c.long-at.type-inv ∙ c.long-at.ensures ∙ to_z-of_z w32 c.before.args.n c.before.ranges.n
+at_read c = read_back c.long-at.result c.long-at.type_inv ∙ c.long-at.ensures ∙ to_z-of_z w32 c.before.args.n c.before.ranges.n
 
 low-is : (c : tie.After-lower) → let s = c.before.before.before.args in c.lower.result ≡ minℤ s.s.low s.n
 low-is c =
@@ -29,7 +29,7 @@ high_is c =
 returns : tie.Need-returns
 unfolding met
 returns c =
-    simp (read_back c.before.before.lower.result c.before.before.lower.type-inv, read_back c.higher.result c.higher.type-inv)
+    simp (read_back c.before.before.lower.result c.before.before.lower.type_inv, read_back c.higher.result c.higher.type_inv)
     (simp (low-is c.before.before, high_is c))
 
 pub meet_spec : {M : Type 1} → statement M

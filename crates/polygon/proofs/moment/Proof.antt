@@ -14,15 +14,15 @@ use Rattle.polygon.proofs.moment.Tie as tie
 
 -- The machine keeps the values of the step, the cell's number and the corner cell's
 step-read : (c : tie.After-widen) → to_z w64 (of_z w64 c.widen.result) ≡ c.before.args.d
-step-read c = read_back c.widen.result c.widen.type-inv ∙ c.widen.ensures ∙ to_z-of_z w16 c.before.args.d c.before.ranges.d
+step-read c = read_back c.widen.result c.widen.type_inv ∙ c.widen.ensures ∙ to_z-of_z w16 c.before.args.d c.before.ranges.d
 
 cell-read : (c : tie.After-whole) → to_z w64 (of_z w64 c.whole.result) ≡ pos c.before.before.args.c
-cell-read c = read_back c.whole.result c.whole.type-inv ∙ c.whole.ensures
+cell-read c = read_back c.whole.result c.whole.type_inv ∙ c.whole.ensures
 
 at_read : (c : tie.After-long) → to_z w64 (of_z w64 c.long.result) ≡ c.before.before.before.args.n
 at_read c =
     let s = c.before.before.before in
-    read_back c.long.result c.long.type-inv ∙ c.long.ensures ∙ to_z-of_z w32 s.args.n s.ranges.n
+    read_back c.long.result c.long.type_inv ∙ c.long.ensures ∙ to_z-of_z w32 s.args.n s.ranges.n
 
 distance-size : (s : tie.Start) → nat_abs (pos s.args.c -ℤ s.args.n) ≤ 2 ^ 32
 distance-size s =
@@ -31,7 +31,7 @@ distance-size s =
 distance_is : (c : tie.After-difference) → let s = c.before.before.before.before.args in
     to_z w64 (of_z w64 c.difference.result) ≡ pos s.c -ℤ s.n
 distance_is c =
-    read_back c.difference.result c.difference.type-inv
+    read_back c.difference.result c.difference.type_inv
     ∙ simp (cell-read c.before.before, at_read c.before) at c.difference.ensures
 
 product-size : (s : tie.Start) → nat_abs (s.args.d *ℤ (pos s.args.c -ℤ s.args.n)) ≤ 32768 * 2 ^ 32
@@ -49,7 +49,7 @@ product-requires c κs =
 returns : tie.Need-returns
 returns c =
     let d = c.before in
-    read_back c.product.result c.product.type-inv ∙ simp (step-read d.before.before.before, distance_is d) at c.product.ensures
+    read_back c.product.result c.product.type_inv ∙ simp (step-read d.before.before.before, distance_is d) at c.product.ensures
 
 pub moment_spec : {M : Type 1} → statement M
 moment_spec =

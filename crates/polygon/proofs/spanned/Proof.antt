@@ -12,7 +12,7 @@ use Rattle.polygon.proofs.spanned.Tie as tie
 
 -- The machine keeps the values of the cell's number and of the two extremes
 cell-read : (c : tie.After-whole-z) → to_z w64 (of_z w64 c.whole-z.result) ≡ pos c.before.args.c
-cell-read c = read_back c.whole-z.result c.whole-z.type-inv ∙ c.whole-z.ensures
+cell-read c = read_back c.whole-z.result c.whole-z.type_inv ∙ c.whole-z.ensures
 
 low-is : (c : tie.After-at_most)
     → c.at_most.result ≡ le_z c.before.before.before.args.s.low (pos c.before.before.before.args.c)

@@ -9,7 +9,7 @@ use Rattle.readings.proofs.bad_number.Tie as tie
 
 returns : tie.Need-returns
 unfolding of_bits of_int
-returns c = bad-is c.args.x (subst T (sym c.well-formed.0.1) tt)
+returns c = bad-is c.args.x (subst T (sym c.well_formed.0.1) tt)
 
 pub bad_number_spec : {M : Type 1} → statement M
 bad_number_spec = tie.close (tie.spec (λ c. search rules) returns)

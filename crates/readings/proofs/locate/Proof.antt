@@ -50,10 +50,10 @@ abbrev edge : Iteration → Edge
 edge t = edge_at (start t).args.edges.now (2 * t.before.loop-i.i)
 
 more : (t : Iteration) → 2 * t.before.loop-i.i + 1 < length (start t).args.edges.now
-more t = omega (arith, t.loop-i-test.taken)
+more t = omega (arith, t.loop-i-test.true)
 
 short : (t : Iteration) → length (start t).args.edges.now ≤ longest_list
-short t = tame-short _ _ (start t).pre
+short t = tame-short _ _ (start t).requires
 
 fits-x : (c : tie.After-pass-arg-1 invariant-loop decreases-loop) → SFits w16 (edge c.before).0
 fits-x c = record { sfits = c.pass-arg-1.given }
@@ -77,7 +77,7 @@ cast-count c = omega (arith, tame-short _ _ c.before.before.before.before.requir
 loop-holds : tie.Need-loop-i-init invariant-loop decreases-loop
 loop-holds c =
     let s = c.before.before.before.before in
-    rw c.begin-at.ensures (walked_start _ _ _ s.requires (omega (arith, s.well-formed.0)) (omega (arith, s.well-formed.0)))
+    rw c.begin-at.ensures (walked_start _ _ _ s.requires (omega (arith, s.well_formed.0)) (omega (arith, s.well_formed.0)))
 
 cast-k : tie.Need-overflow_cast-k invariant-loop decreases-loop
 cast-k c = omega (arith, more c, short c)
@@ -105,26 +105,26 @@ pass-requires c κs = (walked-exactly c.before.before.before.loop-i.invariant).a
 
 returns-2 : tie.Need-returns-in_default invariant-loop decreases-loop
 returns-2 c =
-    let p = c.before.before in
+    let p = c.before in
     let t = p.before.before.before in
-    sym (sym (rule t.before.before) ∙ walked-out t.before.loop-i.invariant (more t) (sym (pass-is p) ∙ c.enum_told-1.given.1))
+    sym (sym (rule t.before.before) ∙ walked-out t.before.loop-i.invariant (more t) (sym (pass-is p) ∙ c.in_default.is))
 
 add-i : tie.Need-overflow_add-i invariant-loop decreases-loop
 add-i c =
-    let t = c.before.before.before.before.before.before in
+    let t = c.before.before.before.before in
     omega (arith, more t, short t)
 
 loop-less : tie.Need-loop-i-smaller invariant-loop decreases-loop
 loop-less c =
-    let t = c.before.before.before.before.before.before in
+    let t = c.before.before.before.before in
     omega (arith, more t)
 
 loop-again : tie.Need-loop-i-preserved invariant-loop decreases-loop
 loop-again c =
-    let p = c.before.before.before in
+    let p = c.before in
     let t = p.before.before.before in
     walked-edge t.before.loop-i.invariant (more t) (fits-x p.before.before) (fits-y p.before)
-    (sym (pass-is p) ∙ c.before.next-1.given.1)
+    (sym (pass-is p) ∙ c.in-On.is)
 
 settle-requires : tie.Need-settle-requires invariant-loop decreases-loop
 settle-requires c κs =

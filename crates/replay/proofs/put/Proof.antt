@@ -23,7 +23,7 @@ loop-holds c = (search rules, paste-zero _ c.before.args.at c.before.args.reply.
 kept : (c : tie.At-loop-i invariant-loop decreases-loop) → length c.loop-i.replies ≡ length c.before.before.args.replies.now
 kept c =
     let a = c.before.before.args in
-    pasted_length a.replies.now a.at a.reply.now reply_width c.before.before.requires c.before.all-1.given.0 _ c.loop-i.i
+    pasted_length a.replies.now a.at a.reply.now reply_width c.before.before.requires c.before.all-1.given _ c.loop-i.i
     c.loop-i.invariant
 
 slice-write-replies : tie.Need-bounds-replies-at invariant-loop decreases-loop
@@ -34,7 +34,7 @@ loop-again c =
     let iteration = c.before in
     let start = iteration.before.before in
     let a = start.before.args in
-    pasted-next a.replies.now a.at a.reply.now reply_width start.before.requires start.all-1.given.0 _
+    pasted-next a.replies.now a.at a.reply.now reply_width start.before.requires start.all-1.given _
     iteration.before.loop-i.i 0 _ refl iteration.before.loop-i.invariant (omega (arith, iteration.loop-i-test.true))
 
 same_length : tie.Need-shape_of-replies invariant-loop decreases-loop

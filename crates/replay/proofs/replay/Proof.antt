@@ -31,21 +31,21 @@ unfolding fresh_holder
 loop-holds c = underway-first _ _ _ _ c.most-end.ensures refl
 
 same_length : tie.Need-shape_of-replies-then-not-made invariant-loop decreases-loop
-same_length c = (turning c.before).before.loop-done.inv.same_length
+same_length c = (turning c.before).before.loop-done.invariant.same_length
 
 returns : tie.Need-returns-then-not-made invariant-loop decreases-loop
 returns c =
     let i = turning c.before in
     let loop = i.before.loop-done in
     let none =
-    stops-at-none _ _ _ _ _ _ loop.inv i.loop-done-test.taken _ _ _ _ _ (sent loop.done) c.before.respond-made.ensures.0
-    c.if-not-made.true in
-    (underway-count _ _ _ _ _ _ loop.inv none, underway-list _ _ _ _ _ _ loop.inv none)
+    stops-at-none _ _ _ _ _ _ loop.invariant i.loop-done-test.true _ _ _ _ _ (sent loop.done) c.before.respond-made.ensures.0
+    (rw c.if-not-made.true) in
+    (underway-count _ _ _ _ _ _ loop.invariant none, underway-list _ _ _ _ _ _ loop.invariant none)
 
 put-requires : tie.Need-put-requires invariant-loop decreases-loop
 put-requires c κs =
     let i = turning c.before.before.before in
-    room _ _ _ _ _ _ i.before.loop-done.inv i.loop-done-test.taken
+    room _ _ _ _ _ _ i.before.loop-done.invariant i.loop-done-test.true
 
 loop-again : tie.Need-loop-done-preserved invariant-loop decreases-loop
 loop-again c =
@@ -53,8 +53,8 @@ loop-again c =
     let made = put.before.before.before in
     let i = turning made.before in
     let loop = i.before.loop-done in
-    underway-responded _ _ _ _ _ _ loop.inv i.loop-done-test.taken _ _ _ _ _ (sent loop.done) made.before.respond-made.ensures.0
-    made.if-not-made.false _ put.put.ensures
+    underway-responded _ _ _ _ _ _ loop.invariant i.loop-done-test.true _ _ _ _ _ (sent loop.done) made.before.respond-made.ensures.0
+    (rw made.if-not-made.false) _ put.put.ensures
 
 same-length-2 : tie.Need-shape_of-replies invariant-loop decreases-loop
 same-length-2 c = c.before.loop-done.invariant.same_length

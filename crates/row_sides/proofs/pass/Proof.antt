@@ -38,7 +38,7 @@ loop-again c =
     let at = loop.before.before.before.before in
     let iteration = loop.loop-i in
     let o : Outline = outline (corner_numbered (numbered at.args.s)) at.args.w.now in
-    passing-next o iteration.i (corner_numbered iteration.number) iteration.lo-1 iteration.en-1 iteration.hi-1
+    passing-next o iteration.i (corner_numbered iteration.number) iteration.lo iteration.en iteration.hi
     iteration.low iteration.high (omega arith) iteration.invariant _ _ _ c.before.lesser-low.result c.greater-high.result _
     c.before.before.mark.ensures c.before.lesser-low.ensures c.greater-high.ensures
     (next-numbered o (simple at.args.s at.args.w.now at.requires) iteration.i iteration.number
@@ -51,10 +51,10 @@ returns c =
     let at = c.before.before.before.before.before in
     let iteration = c.before.loop-i in
     subst
-    (λ (o : Outline). Passed o iteration.lo-1 iteration.en-1 iteration.hi-1 iteration.low iteration.high)
+    (λ (o : Outline). Passed o iteration.lo iteration.en iteration.hi iteration.low iteration.high)
     (same at.args.s at.args.w.now at.requires)
     (passing-end (outline (corner_numbered (numbered at.args.s)) at.args.w.now) iteration.i (corner_numbered iteration.number)
-    iteration.lo-1 iteration.en-1 iteration.hi-1 iteration.low iteration.high (omega arith) iteration.invariant)
+    iteration.lo iteration.en iteration.hi iteration.low iteration.high (omega arith) iteration.invariant)
 
 pub pass_spec : {M : Type 1} → statement M
 pass_spec =

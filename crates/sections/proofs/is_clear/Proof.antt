@@ -3,7 +3,6 @@ use Prim.Native.Nat.{◌-◌, ◌≤◌}
 use native.Mathlib.Omega.{arith}
 use mathlib.Core.Path.{◌≡◌, refl, sym, ◌∙◌}
 use mathlib.Core.Bool.{true}
-use borrow.Author.Tests.{not-true, not-false}
 use Rattle.base.specs.Below.{every}
 use Rattle.sections.specs.Sections.{layers, numbers, whole, clear}
 use Rattle.sections.proofs.Folds.{every-next, every-not}
@@ -24,13 +23,13 @@ returns : tie.Need-returns-then-not-whole invariant-loop decreases-loop
 unfolding clear
 returns c =
     every-not _ layers c.before.before.before.before.before.loop-j.j (omega arith) (sym c.before.whole.ensures
-    ∙ not-true _ c.if-not-whole.true)
+    ∙ c.if-not-whole.true)
 
 loop-again : tie.Need-loop-j-preserved invariant-loop decreases-loop
 loop-again c = (
   omega arith,
   every-next _ _ c.before.before.before.before.before.loop-j.invariant.1 (sym c.before.whole.ensures
-      ∙ not-false _ c.if-not-whole.false),
+      ∙ c.if-not-whole.false),
 )
 
 returns-2 : tie.Need-returns invariant-loop decreases-loop

@@ -2,7 +2,6 @@
 use native.Mathlib.Omega.{arith}
 use mathlib.Core.Path.{sym, ◌∙◌}
 use borrow.Author.Rules.{rules}
-use borrow.Author.Tests.{not-true, not-false}
 use Rattle.sections.specs.Sections.{low_line, high_line, joined}
 use Rattle.sections.proofs.Quotients.{line_small}
 use Rattle.sections.proofs.joined.Statement.{statement}
@@ -10,7 +9,7 @@ use Rattle.sections.proofs.joined.Tie as tie
 
 returns : tie.Need-returns-then-not-full
 unfolding joined
-returns c = (rw (sym c.before.full.ensures ∙ not-true _ c.if-not-full.true), c.before.before.requires.3)
+returns c = (rw (sym c.before.full.ensures ∙ c.if-not-full.true), c.before.before.requires.3)
 
 raised-requires : tie.Need-raised-requires
 raised-requires c κs =
@@ -36,7 +35,7 @@ returns-2 c =
     let below = c.before.before.before.before.before.before.before.weighed-below in (
       rw (
         sym c.before.before.before.before.before.before.before.before.before.before.before.full.ensures
-            ∙ not-false _ c.before.before.before.before.before.before.before.before.before.before.if-not-full.false,
+            ∙ c.before.before.before.before.before.before.before.before.before.before.if-not-full.false,
         lower.ensures.0,
         c.raised.ensures.0,
         over.ensures.0,

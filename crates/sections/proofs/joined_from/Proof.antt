@@ -3,7 +3,6 @@ use Prim.Native.Nat.{suc, ◌+◌, ◌-◌, ◌≤◌}
 use native.Mathlib.Omega.{arith}
 use mathlib.Core.Path.{◌≡◌, sym, ◌∙◌}
 use borrow.Author.Rules.{rules}
-use borrow.Author.Tests.{not-true, not-false}
 use Rattle.sections.specs.Sections.{layers, numbers, Bounded, fold, joined, joined_from}
 use Rattle.sections.proofs.Folds.{fold-from, fold-none}
 use Rattle.sections.proofs.joined_from.Statement.{statement}
@@ -21,7 +20,7 @@ full-requires c κs = omega (arith, c.requires)
 
 returns : tie.Need-returns-then-not-full invariant-loop decreases-loop
 unfolding joined_from
-returns c = (rw (sym c.before.full.ensures ∙ not-true _ c.if-not-full.true), c.before.before.requires.2)
+returns c = (rw (sym c.before.full.ensures ∙ c.if-not-full.true), c.before.before.requires.2)
 
 loop-holds : tie.Need-loop-k-init invariant-loop decreases-loop
 loop-holds c =
@@ -51,7 +50,7 @@ unfolding joined_from
 returns-2 c =
     let (from, most, same, still) = c.before.loop-k.invariant in
     let end : c.before.loop-k.k ≡ layers = omega arith in
-    (rw (sym c.before.before.before.full.ensures ∙ not-false _ c.before.before.if-not-full.false) (rw end at same), still)
+    (rw (sym c.before.before.before.full.ensures ∙ c.before.before.if-not-full.false) (rw end at same), still)
 
 pub joined_from_spec : {M : Type 1} → statement M
 joined_from_spec =

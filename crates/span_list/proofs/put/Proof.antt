@@ -7,11 +7,7 @@ use Rattle.span_list.proofs.put.Tie as tie
 
 returns : tie.Need-returns
 returns c =
-    let s = c.before.before.before.before.before.before.before.before.before in
-    let second = c.before.before in
-    let first = second.before.before.before.before in
-    halves-list s.args.rows-1.now s.args.slot (spans_from s.args.first.now s.args.past.now) _ first.put_rows.ensures _
-    second.put_rows-2.ensures
+    halves-list c.args.rows.now c.args.slot (spans_from c.args.first.now c.args.past.now) _ c.put_rows.ensures _ c.put_rows-2.ensures
 
 pub put_spec : {M : Type 1} → statement M
 put_spec =

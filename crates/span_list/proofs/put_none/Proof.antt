@@ -5,9 +5,7 @@ use Rattle.span_list.proofs.put_none.Statement.{statement}
 use Rattle.span_list.proofs.put_none.Tie as tie
 
 returns : tie.Need-returns
-returns c = let s = c.before.before.before.before.before.before.before.before.before in
-    zeros-list s.args.rows-1.now s.args.slot _ c.before.before.before.before.before.before.put_zeros.ensures _
-    c.before.before.put_zeros-2.ensures
+returns c = zeros-list c.args.rows.now c.args.slot _ c.put_zeros.ensures _ c.put_zeros-2.ensures
 
 pub put_none_spec : {M : Type 1} → statement M
 put_none_spec =

@@ -6,11 +6,7 @@ use Rattle.span_list.proofs.put_outline.Statement.{statement}
 use Rattle.span_list.proofs.put_outline.Tie as tie
 
 returns : tie.Need-returns
-returns c =
-    let put = c.before.before in
-    let found = put.before.before.before.before.before in
-    let start = found.before.before.before in
-    put.put.ensures ∙ ap (rows_put start.args.rows-1.now start.args.slot) found.spans_of-spans.ensures
+returns c = c.put.ensures ∙ ap (rows_put c.args.rows.now c.args.slot) c.spans_of-spans.ensures
 
 pub put_outline_spec : {M : Type 1} → statement M
 put_outline_spec = tie.close (tie.spec (λ c κs. search rules) (λ c κs. search rules) (λ c. search rules) returns)

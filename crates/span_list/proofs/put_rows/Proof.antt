@@ -23,7 +23,7 @@ loop-holds c = (search rules, paste-zero _ c.before.args.at c.before.args.from.n
 kept : (c : tie.At-loop-i invariant-loop decreases-loop) → length c.loop-i.rows ≡ length c.before.before.args.rows.now
 kept c =
     let a = c.before.before.args in
-    pasted_length a.rows.now a.at a.from.now side c.before.before.requires c.before.all-1.given.0 _ c.loop-i.i
+    pasted_length a.rows.now a.at a.from.now side c.before.before.requires c.before.all-1.given _ c.loop-i.i
     c.loop-i.invariant
 
 slice-write-rows : tie.Need-bounds-rows-at invariant-loop decreases-loop
@@ -34,7 +34,7 @@ loop-again c =
     let iteration = c.before in
     let a = iteration.before.before.before.args in
     pasted-next a.rows.now a.at a.from.now side iteration.before.before.before.requires
-    iteration.before.before.all-1.given.0
+    iteration.before.before.all-1.given
     _ iteration.before.loop-i.i 0 _ refl iteration.before.loop-i.invariant (omega (arith, iteration.loop-i-test.true))
 
 same_length : tie.Need-shape_of-rows invariant-loop decreases-loop

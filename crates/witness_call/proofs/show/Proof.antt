@@ -12,7 +12,7 @@ returns-2 c =
     let asked = c.before.before.before.before.before.before.before.before in
     let found = asked.before in
     let start = found.before.before.before.before in
-    found-shown _ start.args.cells-1.now found.before.if-cells-lt-SIX.false found.find-shown.ensures asked.if-shown.true
+    found-shown _ start.args.cells.now found.before.if-cells-lt-SIX.false found.find-shown.ensures asked.if-shown.true
     c.before.before.put.ensures
 
 returns-3 : tie.Need-returns

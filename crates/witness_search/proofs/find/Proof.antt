@@ -39,7 +39,7 @@ module _ (d : tie.After-wide-t) where
   t = d.wide-t.result
 
   simple : Simple o
-  simple = d.before.before.before.before.pre
+  simple = d.before.before.before.before.requires
 
   known : Passed o lo en hi b t
   known = passed-at o lo en hi _ _ b t d.before.wide-b.ensures.0 d.wide-t.ensures.0 d.before.before.pass-k.ensures
@@ -63,20 +63,20 @@ module _ (d : tie.After-wide-t) where
   alone l = omega (arith, ends.rows.below)
 
 search-requires : tie.Need-search-requires
-search-requires c κs = let d = c.before.before.before.before.before in (omega arith, high d)
+search-requires c κs = let d = c.before.before.before.before in (omega arith, high d)
 
 returns : tie.Need-returns-then-b-t
-returns c = found c.before.before.before.before.before.before c.search.result c.search.ensures
+returns c = found c.before.before.before.before.before c.search.result c.search.ensures
 
 single-requires : tie.Need-single-requires
 single-requires c κs =
-    let d = c.before.before.before.before.before in
+    let d = c.before.before.before.before in
     let l = (ends d).rows.below in
-    (omega (arith, high d), (ends d).rows.ranges (b d) (omega arith) l, (runs d (b d) (omega arith) l).begun)
+    (omega (arith, high d), (ends d).rows.fits (b d) (omega arith) l, (runs d (b d) (omega arith) l).begun)
 
 returns-2 : tie.Need-returns
 returns-2 c =
-    let d = c.before.before.before.before.before.before in
+    let d = c.before.before.before.before.before in
     let s = c.single.result in
     found d s
     (subst (λ (t : ℕ). Answers (rows (lo d)) (rows (en d)) (rows (hi d)) (b d) t s.found s.cell s.a s.b s.d)

@@ -32,10 +32,10 @@ loop-holds c =
     )
 
 edge-start-requires : tie.Need-edge_start-i-requires invariant-loop decreases-loop
-edge-start-requires c κs = omega (arith, c.before.before.loop-r.invariant.2.left-1)
+edge-start-requires c κs = omega (arith, c.before.before.loop-r.invariant.2.left)
 
 edge-start-requires-2 : tie.Need-edge_start-k-requires invariant-loop decreases-loop
-edge-start-requires-2 c κs = omega (arith, c.before.before.before.before.loop-r.invariant.2.right-1)
+edge-start-requires-2 c κs = omega (arith, c.before.before.before.before.loop-r.invariant.2.right)
 
 -- What is known at the head of the loop
 module _ (h : tie.At-loop-r invariant-loop decreases-loop) where
@@ -61,13 +61,13 @@ module _ (h : tie.At-loop-r invariant-loop decreases-loop) where
   t = first.before.args.t
 
   abbrev two : suc b < t
-  two = h.loop-r.inv.0
+  two = h.loop-r.invariant.0
 
   abbrev mirrors : (s : ℕ) → s < t → m s ≡ side - hi s
-  mirrors = h.loop-r.inv.1
+  mirrors = h.loop-r.invariant.1
 
   abbrev searching : Searching lo en hi m b t two mirrors h.loop-r.i h.loop-r.k h.loop-r.r
-  searching = h.loop-r.inv.2
+  searching = h.loop-r.invariant.2
 
 -- Once the rows are known where the current edges start
 module _ (c : tie.After-edge_start-k invariant-loop decreases-loop) where
@@ -88,12 +88,12 @@ module _ (c : tie.After-edge_start-k invariant-loop decreases-loop) where
 
   left-within : (b head ≤ i) × (suc i < t head)
   left-within =
-      edge-within (lo head) (b head) (t head) (two head) head.before.before.before.tangents-left.ensures (searching head).left-1
+      edge-within (lo head) (b head) (t head) (two head) head.before.before.before.tangents-left.ensures (searching head).left
       (searching head).low high c.before.before.edge_start-i.ensures
 
   right-within : (b head ≤ k) × (suc k < t head)
   right-within =
-      edge-within (m head) (b head) (t head) (two head) head.before.tangents-right.ensures (searching head).right-1 (searching head).low
+      edge-within (m head) (b head) (t head) (two head) head.before.tangents-right.ensures (searching head).right (searching head).low
       high c.edge_start-k.ensures
 
 -- Once the rows are known where they end
@@ -104,19 +104,19 @@ module _ (c : tie.After-wide-n invariant-loop decreases-loop) where
   left : let h = head starts in Edge (lo h) (b h) (t h) (two h) (r starts) (i starts) c.before.wide-j.result
   left =
       let h = head starts in
-      edge_of (lo h) (b h) (t h) (two h) h.before.before.before.tangents-left.ensures (searching h).left-1 (searching h).low (high starts)
+      edge_of (lo h) (b h) (t h) (two h) h.before.before.before.tangents-left.ensures (searching h).left (searching h).low (high starts)
       starts.before.before.edge_start-i.ensures c.before.wide-j.result c.before.wide-j.ensures.0
 
   right : let h = head starts in Edge (m h) (b h) (t h) (two h) (r starts) (k starts) c.wide-n.result
   right =
       let h = head starts in
-      edge_of (m h) (b h) (t h) (two h) h.before.tangents-right.ensures (searching h).right-1 (searching h).low (high starts)
+      edge_of (m h) (b h) (t h) (two h) h.before.tangents-right.ensures (searching h).right (searching h).low (high starts)
       starts.edge_start-k.ensures c.wide-n.result c.wide-n.ensures.0
 
 -- Once the column to test is known
 module _ (c : tie.After-column-c invariant-loop decreases-loop) where
   abbrev crossed : tie.After-crossing-l invariant-loop decreases-loop
-  crossed = c.before.before.before.before.before
+  crossed = c.before.before.before.before.before.before.before
 
   abbrev ends : tie.After-wide-n invariant-loop decreases-loop
   ends = crossed.before
@@ -126,7 +126,7 @@ module _ (c : tie.After-column-c invariant-loop decreases-loop) where
 
   across : Across (lo h) (en h) (hi h) (m h) (b h) (t h) (two h) (mirrors h) (r (starts ends)) (i (starts ends))
       ends.before.wide-j.result (k (starts ends)) ends.wide-n.result crossed.crossing-l.result
-      c.before.before.before.crossing-x.result c.column-c.result
+      c.crossing-x.result c.column-c.result
   across =
       record {
         low = (searching h).low;
@@ -134,7 +134,7 @@ module _ (c : tie.After-column-c invariant-loop decreases-loop) where
         left = left ends;
         right = right ends;
         crosses-left = crossed.crossing-l.ensures.0;
-        crosses-right = c.before.before.before.crossing-x.ensures.0;
+        crosses-right = c.crossing-x.ensures.0;
         is-column = c.column-c.ensures;
       }
 
@@ -157,7 +157,7 @@ crossing-requires-2 : tie.Need-crossing-x-requires invariant-loop decreases-loop
 crossing-requires-2 c κs = omega (arith, right c.before.before)
 
 display-requires : tie.Need-display-requires invariant-loop decreases-loop
-display-requires c κs = let a = across c.before.before in omega (arith, a.left-1, a.right-1)
+display-requires c κs = let a = across c.before.before in omega (arith, a.left, a.right)
 
 returns : tie.Need-returns-then-gap invariant-loop decreases-loop
 returns c =

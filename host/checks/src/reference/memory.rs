@@ -69,13 +69,10 @@ impl Slot {
         Point::new(memory.heads[self.head()], memory.heads[self.head() + 1])
     }
 
-    fn count(self, memory: &HolderMemory) -> usize {
-        memory.heads[self.head() + 2].into()
-    }
-
     /// The edges that are counted; a count above the space is read as the space.
     fn edges(self, memory: &HolderMemory) -> &[i16] {
-        &memory.numbers[self.numbers()][..2 * self.count(memory).min(MOST_EDGES)]
+        let count = usize::from(memory.heads[self.head() + 2]).min(MOST_EDGES);
+        &memory.numbers[self.numbers()][..2 * count]
     }
 }
 
@@ -281,7 +278,7 @@ fn held(memory: &HolderMemory, party: u8, place: u8) -> Result<Option<Outline>, 
     }
     let slot = Slot::named(party, word).ok_or(numbered(27))?;
     let (anchor, edges) = (slot.anchor(memory), slot.edges(memory));
-    if off_chart(anchor) || bad_turning(edges) || slot.count(memory) > MOST_EDGES {
+    if off_chart(anchor) || bad_turning(edges) {
         return Err(numbered(27));
     }
     let letters = outline_with(anchor, edges).ok_or(numbered(27))?;

@@ -24,7 +24,7 @@ slice-write-letters c = omega (arith, c.before.before.requires)
 
 loop-holds : tie.Need-loop-i-init invariant-loop decreases-loop
 loop-holds c = let s = c.before.before in
-    rw c.later.ensures (building-start s.args.edges.now s.args.letters-1.now s.requires.0 s.requires.1)
+    rw c.later.ensures (building-start s.args.edges.now s.args.letters.now s.requires.0 s.requires.1)
 
 add-loop : tie.Need-overflow_add-i invariant-loop decreases-loop
 add-loop c = omega (arith, c.loop-i.invariant.passed)
@@ -71,7 +71,7 @@ same_length : tie.Need-shape_of-letters invariant-loop decreases-loop
 same_length c =
     let l = c.before.before.before.before.before in
     c.before.before.begin_pieces.ensures.1.sized ∙ l.loop-i.invariant.sized
-    ∙ length-set l.before.before.before.args.letters-1.now 0 _
+    ∙ length-set l.before.before.before.args.letters.now 0 _
 
 returns : tie.Need-returns invariant-loop decreases-loop
 returns c = let l = c.before.before.before.before.before in

@@ -3,7 +3,6 @@ use Prim.Native.Nat.{ℕ, suc, ◌+◌, ◌-◌, ◌*◌, ◌%◌, ◌≤◌, �
 use native.Mathlib.Nat.{zero-mul, zero-mod, mod-lt}
 use native.Mathlib.Numerals.{add-one}
 use native.Mathlib.Omega.{arith}
-use mathlib.Core.Logic.{⊎_elim}
 use lib.ListN.{set}
 use mathlib.Core.Path.{◌≡◌, sym, ap, ◌∙◌}
 use borrow.Author.Rules.{rules}
@@ -15,6 +14,7 @@ use Rattle.border.specs.parts.Wrote.{Wrote}
 use Rattle.border.proofs.Remainders.{multiple-next}
 use Rattle.border.proofs.Writing.{wrote_none, earlier-next, later-next}
 use Rattle.border.proofs.writer.write_edge.Statement.{statement}
+use Rattle.border.proofs.writer.write_edge.Lts.{then-rem-run, else-rem-run}
 use Rattle.border.proofs.writer.write_edge.Tie as tie
 
 abbrev invariant-loop : tie.invariant-loop-i
@@ -57,14 +57,14 @@ longer c =
     let a = s.args in
     let h = l.loop-i.invariant.2 in
     let rem = l.loop-i.invariant.1 in
-    ⊎_elim
-    (λ w.
-    rw (w.1, l.before.before.earlier-earlier.ensures)
-    (earlier-next a.k a.run a.rise l.loop-i.i s.requires.1 a.at h (omega arith) (omega (arith, w.0.taken))))
-    (λ w.
-    rw (w.1, l.before.later-later.ensures)
-    (later-next a.k a.run a.rise l.loop-i.i s.requires.1 a.at h (omega arith) (omega (arith, w.0.left))))
-    c.if-rem-run.branch
+    elim c.if-rem-run.branch [
+      | then-rem-run w ↦
+          rw (w.letter-is, l.before.before.earlier-earlier.ensures)
+          (earlier-next a.k a.run a.rise l.loop-i.i s.requires.1 a.at h (omega arith) (omega (arith, w.if-rem-run.true)))
+      | else-rem-run w ↦
+          rw (w.letter-is, l.before.later-later.ensures)
+          (later-next a.k a.run a.rise l.loop-i.i s.requires.1 a.at h (omega arith) (omega (arith, w.if-rem-run.false)))
+    ]
 
 loop-again : tie.Need-loop-i-preserved invariant-loop decreases-loop
 loop-again c =

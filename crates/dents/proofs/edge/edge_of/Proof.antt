@@ -16,25 +16,25 @@ steps-requires c κs =
     let r = table-read c.before.before in
     let start = c.before.before.before in
     let u = frame-units start.args.k in
-    simp (r.earlier-cols, r.later-cols)
-    (record { run_le = start.requires.0; rise_le = start.requires.1; earlier_le = u.earlier-cols; later_le = u.later-cols })
+    simp (r.earlier_cols, r.later_cols)
+    (record { run_le = start.requires.0; rise_le = start.requires.1; earlier_le = u.earlier_cols; later_le = u.later_cols })
 
 steps-requires-2 : tie.Need-steps-requires-2
 steps-requires-2 c κs =
     let r = table-read c.before.before.before.before.before in
     let start = c.before.before.before.before.before.before in
     let u = frame-units start.args.k in
-    simp (r.earlier-rows, r.later_rows)
-    (record { run_le = start.requires.0; rise_le = start.requires.1; earlier_le = u.earlier-rows; later_le = u.later_rows })
+    simp (r.earlier_rows, r.later_rows)
+    (record { run_le = start.requires.0; rise_le = start.requires.1; earlier_le = u.earlier_rows; later_le = u.later_rows })
 
 returns : tie.Need-returns
 returns c =
     let r = table-read c.before.before.before.before.before.before in
     let s = c.before.before.before in
     record {
-      dx = to_z-of_z w16 s.steps.result (record { sfits = s.steps.type-inv }) ∙ simp (r.earlier-cols, r.later-cols) at s.steps.ensures;
-      dy = to_z-of_z w16 c.steps-2.result (record { sfits = c.steps-2.type-inv })
-          ∙ simp (r.earlier-rows, r.later_rows) at c.steps-2.ensures;
+      dx = to_z-of_z w16 s.steps.result (record { sfits = s.steps.type_inv }) ∙ simp (r.earlier_cols, r.later_cols) at s.steps.ensures;
+      dy = to_z-of_z w16 c.steps-2.result (record { sfits = c.steps-2.type_inv })
+          ∙ simp (r.earlier_rows, r.later_rows) at c.steps-2.ensures;
     }
 
 pub edge_of_spec : {M : Type 1} → statement M

@@ -20,10 +20,10 @@ module _ (s : tie.Start) where
   rise = pos s.args.rise *ℤ s.args.later
 
   run-size : nat_abs run ≤ longest
-  run-size = size-product-le (pos s.args.run) s.args.earlier s.pre.run_le s.pre.earlier_le
+  run-size = size-product-le (pos s.args.run) s.args.earlier s.requires.run_le s.requires.earlier_le
 
   rise-size : nat_abs rise ≤ longest
-  rise-size = size-product-le (pos s.args.rise) s.args.later s.pre.rise_le s.pre.later_le
+  rise-size = size-product-le (pos s.args.rise) s.args.later s.requires.rise_le s.requires.later_le
 
   run_fits : SFits w16 run
   run_fits = fits-size w16 run (omega (arith, run-size))
@@ -36,16 +36,16 @@ module _ (s : tie.Start) where
 
   -- The counts and the steps are read back as they are
   run-read : to_z w16 s.args.run ≡ pos s.args.run
-  run-read = to_z_pos w16 s.args.run (omega (arith, s.pre.run_le))
+  run-read = to_z_pos w16 s.args.run (omega (arith, s.requires.run_le))
 
   rise-read : to_z w16 s.args.rise ≡ pos s.args.rise
-  rise-read = to_z_pos w16 s.args.rise (omega (arith, s.pre.rise_le))
+  rise-read = to_z_pos w16 s.args.rise (omega (arith, s.requires.rise_le))
 
   earlier-read : to_z w16 (of_z w16 s.args.earlier) ≡ s.args.earlier
-  earlier-read = to_z-of_z w16 s.args.earlier s.fits.earlier
+  earlier-read = to_z-of_z w16 s.args.earlier s.ranges.earlier
 
   later-read : to_z w16 (of_z w16 s.args.later) ≡ s.args.later
-  later-read = to_z-of_z w16 s.args.later s.fits.later
+  later-read = to_z-of_z w16 s.args.later s.ranges.later
 
 mul-result : tie.Need-overflow_mul-result
 mul-result c = rw (run-read c, earlier-read c) (run_fits c)

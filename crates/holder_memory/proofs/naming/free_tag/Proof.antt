@@ -22,12 +22,12 @@ loop-holds c = (search rules, refl)
 returns : tie.Need-returns-then-not-named invariant-loop decreases-loop
 returns c =
     let turn = c.before.before in
-    free-here _ _ _ _ (omega (arith, turn.loop-t-test.true)) turn.before.loop-t.invariant.1 c.before.named.ensures c.if-not-named.true
+    free-here _ _ _ _ (omega (arith, turn.loop-t-test.true)) turn.before.loop-t.invariant.1 c.before.named.ensures (rw c.if-not-named.true)
 
 loop-again : tie.Need-loop-t-preserved invariant-loop decreases-loop
 loop-again c =
     let turn = c.before.before in
-    (omega (arith, turn.loop-t-test.true), free-next _ _ _ _ turn.before.loop-t.invariant.1 c.before.named.ensures c.if-not-named.false)
+    (omega (arith, turn.loop-t-test.true), free-next _ _ _ _ turn.before.loop-t.invariant.1 c.before.named.ensures (rw c.if-not-named.false))
 
 returns-2 : tie.Need-returns invariant-loop decreases-loop
 returns-2 c = free-last _ _ _ c.before.loop-t.invariant.1 (omega (arith, c.before.loop-t.invariant.0, c.loop-t-test.false))

@@ -26,7 +26,7 @@ loop-holds c = (search rules, paste-zero _ c.before.args.at c.before.args.list.n
 kept : (c : tie.At-loop-i invariant-loop decreases-loop) → length c.loop-i.buffer ≡ length c.before.before.args.buffer.now
 kept c =
     let a = c.before.before.args in
-    pasted_length a.buffer.now a.at a.list.now most_numbers c.before.before.requires c.before.all-1.given.0 _ c.loop-i.i
+    pasted_length a.buffer.now a.at a.list.now most_numbers c.before.before.requires c.before.all-1.given _ c.loop-i.i
     c.loop-i.invariant
 
 slice-set-from-number : tie.Need-bounds-buffer-at invariant-loop decreases-loop
@@ -38,7 +38,7 @@ loop-again c =
     let a = iteration.before.before.before.args in
     let i = iteration.before.loop-i.i in
     pasted-next a.buffer.now a.at a.list.now most_numbers iteration.before.before.before.requires
-    iteration.before.before.all-1.given.0
+    iteration.before.before.all-1.given
     _ i (pos 0) _ (to_z-of_z w16 (get_or a.list.now i (pos 0)) (record { sfits = c.number-1.given }))
     iteration.before.loop-i.invariant (omega (arith, iteration.loop-i-test.true))
 

@@ -8,4 +8,4 @@ returns : tie.Need-returns
 returns c = (c.close-reply.ensures, named_by _ _ _ _ _ c.close-reply.ensures)
 
 pub close_spec : {M : Type 1} → statement M
-close_spec = tie.close-reply (tie.spec (λ c κs. search rules) returns)
+close_spec = tie.close (tie.spec (λ c κs. search rules) returns)

@@ -9,7 +9,7 @@ use Rattle.polygon.proofs.round.first_half.Statement.{statement}
 use Rattle.polygon.proofs.round.first_half.Tie as tie
 
 cols-read : (c : tie.After-widen-across) → to_z w64 (of_z w64 c.widen-across.result) ≡ c.before.args.dx
-cols-read c = widened c.before.ranges.dx c.widen-across.type-inv c.widen-across.ensures
+cols-read c = widened c.before.ranges.dx c.widen-across.type_inv c.widen-across.ensures
 
 cols-positive : (c : tie.After-positive) → c.positive.result ≡ positive c.before.before.args.dx
 cols-positive c = c.positive.ensures ∙ ap positive (cols-read c.before)
@@ -22,7 +22,7 @@ rows-positive : (c : tie.After-positive-then-is_zero)
 rows-positive c =
     let w = c.before in
     let s = w.before.before.before.before.before.before in
-    c.positive-then-is_zero.ensures ∙ ap positive (widened s.ranges.dy w.widen.type-inv w.widen.ensures)
+    c.positive-then-is_zero.ensures ∙ ap positive (widened s.ranges.dy w.widen.type_inv w.widen.ensures)
 
 returns : tie.Need-returns-then-positive
 unfolding first_half

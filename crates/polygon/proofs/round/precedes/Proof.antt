@@ -1,7 +1,7 @@
 -- The code makes the definition's tests in its order.
 use borrow.Author.Rules.{rules}
-use borrow.Author.Tests.{not-true, not-false}
-use mathlib.Core.Path.{◌≡◌, sym, ◌∙◌}
+use mathlib.Core.Path.{◌≡◌, sym, ap, ◌∙◌}
+use mathlib.Core.Bool.{not}
 use mir.Syntax.{w16}
 use mir.ValLaws.{to_z-of_z}
 use Rattle.directions.specs.Round.{first_half, precedes}
@@ -28,7 +28,7 @@ returns : tie.Need-returns-then-not-first_half
 unfolding precedes
 returns c =
     let one = c.before.before in
-    c.if-not-first_half.true ∙ simp (sym (first-is one.before) ∙ one.if-first_half.true, sym (second_is c.before) ∙ not-true _ c.if-not-first_half.true)
+    ap not c.if-not-first_half.true ∙ simp (sym (first-is one.before) ∙ one.if-first_half.true, sym (second_is c.before) ∙ c.if-not-first_half.true)
 
 returns-2 : tie.Need-returns-else-not-first_half
 unfolding precedes
@@ -42,7 +42,7 @@ returns-2 c =
       to_z-of_z w16 _ s.ranges.ex,
       to_z-of_z w16 _ s.ranges.ey,
     ) at c.clockwise.ensures
-    ∙ simp (sym (first-is one.before) ∙ one.if-first_half.true, sym (second_is two.before) ∙ not-false _ two.if-not-first_half.false)
+    ∙ simp (sym (first-is one.before) ∙ one.if-first_half.true, sym (second_is two.before) ∙ two.if-not-first_half.false)
 
 returns-3 : tie.Need-returns-then-not-first_half-2
 unfolding precedes
@@ -56,13 +56,13 @@ returns-3 c =
       to_z-of_z w16 _ s.ranges.ex,
       to_z-of_z w16 _ s.ranges.ey,
     ) at c.clockwise-then-not-first_half-2.ensures
-    ∙ simp (sym (first-is one.before) ∙ one.if-first_half.false, sym (second-is-2 two.before) ∙ not-true _ two.if-not-first_half-2.true)
+    ∙ simp (sym (first-is one.before) ∙ one.if-first_half.false, sym (second-is-2 two.before) ∙ two.if-not-first_half-2.true)
 
 returns-4 : tie.Need-returns-else-not-first_half-2
 unfolding precedes
 returns-4 c =
     let one = c.before.before in
-    c.if-not-first_half-2.false ∙ simp (sym (first-is one.before) ∙ one.if-first_half.false, sym (second-is-2 c.before) ∙ not-false _ c.if-not-first_half-2.false)
+    ap not c.if-not-first_half-2.false ∙ simp (sym (first-is one.before) ∙ one.if-first_half.false, sym (second-is-2 c.before) ∙ c.if-not-first_half-2.false)
 
 pub precedes_spec : {M : Type 1} → statement M
 precedes_spec =

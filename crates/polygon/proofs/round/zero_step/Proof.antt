@@ -7,12 +7,12 @@ use Rattle.polygon.proofs.round.zero_step.Statement.{statement}
 use Rattle.polygon.proofs.round.zero_step.Tie as tie
 
 cols-nil : (c : tie.After-is_zero) → c.is_zero.result ≡ is_nil c.before.before.args.dx
-cols-nil c = let w = c.before in c.is_zero.ensures ∙ ap is_nil (widened w.before.ranges.dx w.widen.type-inv w.widen.ensures)
+cols-nil c = let w = c.before in c.is_zero.ensures ∙ ap is_nil (widened w.before.ranges.dx w.widen.type_inv w.widen.ensures)
 
 rows-nil : (c : tie.After-is_zero-then-is_zero) → c.is_zero-then-is_zero.result ≡ is_nil c.before.before.before.before.before.args.dy
 rows-nil c =
     let w = c.before in
-    c.is_zero-then-is_zero.ensures ∙ ap is_nil (widened w.before.before.before.before.ranges.dy w.widen-then-is_zero.type-inv w.widen-then-is_zero.ensures)
+    c.is_zero-then-is_zero.ensures ∙ ap is_nil (widened w.before.before.before.before.ranges.dy w.widen-then-is_zero.type_inv w.widen-then-is_zero.ensures)
 
 returns : tie.Need-returns-then-is_zero
 returns c = rows-nil c ∙ simp (sym (cols-nil c.before.before.before) ∙ c.before.before.if-is_zero.true)

@@ -15,8 +15,8 @@ module _ (c : tie.After-widen-2) where
   reads : (to_z w64 (of_z w64 c.before.widen.result) ≡ c.before.before.args.a)
       × (to_z w64 (of_z w64 c.widen-2.result) ≡ c.before.before.args.b)
   reads = (
-    widened c.before.before.ranges.a c.before.widen.type-inv c.before.widen.ensures,
-    widened c.before.before.ranges.b c.widen-2.type-inv c.widen-2.ensures,
+    widened c.before.before.ranges.a c.before.widen.type_inv c.before.widen.ensures,
+    widened c.before.before.ranges.b c.widen-2.type_inv c.widen-2.ensures,
   )
 
   size : nat_abs (c.before.before.args.a *ℤ c.before.before.args.b) ≤ 32768 * 32768
@@ -29,7 +29,7 @@ product-requires c κs = let r = reads c in simp (r.0, r.1) (fits-size w64 _ (om
 returns : tie.Need-returns
 returns c =
     let r = reads c.before in
-    let e = read_back c.product.result c.product.type-inv ∙ simp (r.0, r.1) at c.product.ensures in
+    let e = read_back c.product.result c.product.type_inv ∙ simp (r.0, r.1) at c.product.ensures in
     (e, rw e (omega (arith, size c.before)))
 
 pub times_spec : {M : Type 1} → statement M

@@ -20,7 +20,7 @@ returns : tie.Need-returns
 unfolding arrived
 returns c =
     let rows = c.before in
-    let cols = rows.before.before in
+    let cols = rows.before.before.before in
     simp (cols.meet.ensures, rows.meet-2.ensures, col-read cols.before, row_read rows.before)
 
 pub arrive_spec : {M : Type 1} → statement M

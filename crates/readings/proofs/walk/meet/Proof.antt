@@ -29,8 +29,8 @@ unfolding met
 returns c =
     let low = c.before.before in
     simp (
-      to_z-of_z w32 low.lower.result (record { sfits = low.lower.type-inv }),
-      to_z-of_z w32 c.higher.result (record { sfits = c.higher.type-inv }),
+      to_z-of_z w32 low.lower.result (record { sfits = low.lower.type_inv }),
+      to_z-of_z w32 c.higher.result (record { sfits = c.higher.type_inv }),
     ) (simp (low-is low, high_is c))
 
 pub meet_spec : {M : Type 1} → statement M

@@ -56,14 +56,14 @@ further-requires c κs =
 
 returns : tie.Need-returns-then-v-2
 unfolding passed
-returns c = rw (sym (far-is c.before.before.before) ∙ c.if-v-2.true) refl
+returns c = rw (sym (far-is c.before.before.before.before) ∙ c.if-v-2.true) refl
 
 returns-2 : tie.Need-returns-then-v
 unfolding passed moved
 returns-2 c =
     let n = c.before.before in
     let f = n.before in
-    let v = f.before in
+    let v = f.before.before in
     rw (
       sym (far-is v) ∙ c.before.if-v-2.false,
       sym (near-is v) ∙ n.if-v.true,
@@ -74,7 +74,7 @@ returns-3 : tie.Need-returns
 unfolding passed moved
 returns-3 c =
     let f = c.before.before in
-    let v = f.before in
+    let v = f.before.before in
     rw (
       far-not v c.before.if-v.false,
       sym (near-is v) ∙ c.before.if-v.false,

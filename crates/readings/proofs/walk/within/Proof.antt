@@ -9,7 +9,6 @@ use lib.Ieee.{binary32, le, of_int}
 use mir.Syntax.{w32}
 use mir.Val.{to_z, of_z}
 use mir.ValLaws.{to_z-of_z}
-use borrow.Author.Tests.{not-true, not-false}
 use Rattle.rounding.specs.Units.{value, in_units}
 use Rattle.rounding.proofs.Values.{Exact}
 use Rattle.readings.specs.parts.Walk.{spanned}
@@ -29,7 +28,7 @@ most-read : (c : tie.After-struct_told-2-1) →
 most-read c = to_z-of_z w32 _ (record { sfits = c.struct_told-2-1.given.1.0.1 })
 
 exact : (c : tie.After-struct_told-2-1) → Exact binary32 c.before.before.args.x
-exact c = let s = c.before.before in good-exact s.args.x (subst T (sym s.well-formed.1.0.1) tt) s.requires.2
+exact c = let s = c.before.before in good-exact s.args.x (subst T (sym s.well_formed.1.0.1) tt) s.requires.2
 
 -- The tests, at the numbers themselves
 low-is : (c : tie.After-struct_told-2-1) → let least = c.before.before.args.m.least in
@@ -37,14 +36,14 @@ low-is : (c : tie.After-struct_told-2-1) → let least = c.before.before.args.m.
 low-is c = rw (least-read c) refl
 
 low-true : (c : tie.Else-not-least) → le_z (pos 0) c.before.before.before.args.m.least ≡ true
-low-true c = sym (low-is c.before) ∙ not-false _ c.if-not-least.false
+low-true c = sym (low-is c.before) ∙ c.if-not-least.false
 
 high_is : (c : tie.After-struct_told-2-1)
     → le_z (to_z w32 (of_z w32 c.before.before.args.m.most)) (pos 254) ≡ le_z c.before.before.args.m.most (pos 254)
 high_is c = rw (most-read c) refl
 
 high-true : (c : tie.Else-not-most) → le_z c.before.before.before.before.args.m.most (pos 254) ≡ true
-high-true c = sym (high_is c.before.before) ∙ not-false _ c.if-not-most.false
+high-true c = sym (high_is c.before.before) ∙ c.if-not-most.false
 
 under-is : (c : tie.After-struct_told-2-1) →
     let a = c.before.before.args in
@@ -62,11 +61,11 @@ over-is c =
 
 returns : tie.Need-returns-then-not-least
 unfolding spanned
-returns c = rw (sym (low-is c.before) ∙ not-true _ c.if-not-least.true) refl
+returns c = rw (sym (low-is c.before) ∙ c.if-not-least.true) refl
 
 returns-2 : tie.Need-returns-then-not-most
 unfolding spanned
-returns-2 c = rw (low-true c.before, sym (high_is c.before.before) ∙ not-true _ c.if-not-most.true) refl
+returns-2 c = rw (low-true c.before, sym (high_is c.before.before) ∙ c.if-not-most.true) refl
 
 int-to-float-if3 : tie.Need-int_to_float-least
 int-to-float-if3 c =
@@ -78,7 +77,7 @@ returns-3 : tie.Need-returns-then-not-least-x
 unfolding spanned
 returns-3 c =
     let e = c.before.before in
-    rw (low-true e.before, high-true e, sym (under-is e.before.before) ∙ not-true _ c.if-not-least-x.true) refl
+    rw (low-true e.before, high-true e, sym (under-is e.before.before) ∙ c.if-not-least-x.true) refl
 
 int-to-float-result : tie.Need-int_to_float-result
 int-to-float-result c =
@@ -91,7 +90,7 @@ unfolding spanned
 returns-4 c =
     let e = c.before.before.before in
     let two = e.before.before in
-    rw (low-true e.before, high-true e, sym (under-is two) ∙ not-false _ c.before.if-not-least-x.false) (over-is two)
+    rw (low-true e.before, high-true e, sym (under-is two) ∙ c.before.if-not-least-x.false) (over-is two)
 
 pub within_spec : {M : Type 1} → statement M
 within_spec = tie.close (tie.spec returns (λ c. search rules) returns-2 int-to-float-if3 returns-3 int-to-float-result returns-4)
