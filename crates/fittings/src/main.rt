@@ -3,7 +3,7 @@
 #![tactic(auto)]
 
 ghost use Rattle.std.specs.Prelude.{◌≡◌, ◌≤◌, true, length, take};
-ghost use Rattle.std.specs.Io.KnownBytes.{Appends};
+ghost use Rattle.std.specs.Io.KnownBytes.{Appends, Consumes, IsAtEnd};
 ghost use Rattle.text_lines.specs.Text.{text_of};
 ghost use Rattle.fitting_listing.specs.Lines.{lines_of};
 
@@ -22,10 +22,12 @@ fn write_listing<W: Write>(out: &mut W, file: &[u8], text: &mut [u8]) -> bool
     }
 }
 
-// Reads until the buffer is full, the input ends or a read fails, and returns how many bytes it put at the start of the buffer.
-fn read_full(input: &mut impl Read, buffer: &mut [u8]) -> usize
+// Reads until the buffer is full, the input ends or a read fails, and returns how many bytes it put at the start of the buffer. They are
+// what was read from the input.
+fn read_full<R: Read>(input: &mut R, buffer: &mut [u8]) -> usize
     ensures within { result ≤ length buffer.new }
     ensures prefix { result ≡ length (take result buffer.new) }
+    ensures bytes { Consumes (R.remaining input.old) (R.remaining input.new) (take result buffer.new) }
 {
     let mut done = 0;
     while done < buffer.len() {
@@ -39,7 +41,9 @@ fn read_full(input: &mut impl Read, buffer: &mut [u8]) -> usize
 }
 
 // Whether the input has ended: one more read finds nothing, and does not fail.
-fn ended(input: &mut impl Read) -> bool {
+fn ended<R: Read>(input: &mut R) -> bool
+    ensures { result ≡ true → IsAtEnd (R.remaining input.new) }
+{
     let mut more = [0u8; 1];
     match input.read(&mut more) {
         Ok(got) => got == 0,
