@@ -8,21 +8,23 @@ use std::process::{Command, Stdio};
 
 use support::call::{err, fed, file, out, path, program, record, status, DENTED, PLUS, PROGRAM, SPECIMENS};
 
-/// A folder with files in folders, one of them with a fault and one that is no file of outlines.
-fn fleet() -> String {
-    let folder = path("fleet");
+/// A folder with files in folders, one of them with a fault and one that is no file of outlines. Each test has its own, since they run at
+/// the same time.
+fn fleet(name: &str) -> String {
+    let folder = path(name);
     let _ = fs::remove_dir_all(&folder);
-    file("fleet/b.txt", b"0 0 1032 # one cell\n0 0 111033003222\n");
-    file("fleet/a/z.fit", &record((0, 1), &PLUS));
-    file("fleet/a/y.fit", &[&record((3, 4), &DENTED)[..], b"KX"].concat());
-    file("fleet/c.fit", &record((7, 7), &PLUS));
-    file("fleet/notes.md", b"# not outlines\n");
+    let put = |at: &str, bytes: &[u8]| file(&format!("{name}/{at}"), bytes);
+    put("b.txt", b"0 0 1032 # one cell\n0 0 111033003222\n");
+    put("a/z.fit", &record((0, 1), &PLUS));
+    put("a/y.fit", &[&record((3, 4), &DENTED)[..], b"KX"].concat());
+    put("c.fit", &record((7, 7), &PLUS));
+    put("notes.md", b"# not outlines\n");
     folder
 }
 
 #[test]
 fn folders_are_read_in_order_and_past_faults() {
-    let folder = fleet();
+    let folder = fleet("fleet-in-order");
     let checked = program(&["check", &folder]);
     let dent = "refused, 9: a dent - cell";
     let piece = "4 letters from place 4 in piece 2 (N to E: down and right)";
@@ -56,7 +58,7 @@ fn folders_are_read_in_order_and_past_faults() {
 
 #[test]
 fn a_json_object_a_line() {
-    let folder = fleet();
+    let folder = fleet("fleet-in-json");
     let checked = program(&["check", &folder, "--format", "json"]);
     let text = out(&checked);
     let mut lines: Vec<&str> = text.lines().collect();
