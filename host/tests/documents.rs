@@ -237,7 +237,11 @@ fn what_the_documents_name_exists() {
     assert!(all.is_empty(), "{} wrong references:\n{}", all.len(), all.join("\n"));
 }
 
-/// The loops of the library, each with the measure in its proof; the programs' are left out.
+/// The methods that go over a list by themselves.
+const METHODS: [&str; 9] = ["position", "rposition", "any", "all", "find", "find_map", "fold", "copy_from_slice", "fill"];
+
+/// The loops of the library, each with what bounds its rounds: for a `while` the measure in its proof, for a `for` what it goes over, for a
+/// method its name. The programs' are left out.
 fn loops(tree: &Tree) -> BTreeSet<(String, String)> {
     let mut found = BTreeSet::new();
     for path in tree.code.keys().filter(|path| path.starts_with("crates/")) {
@@ -251,16 +255,38 @@ fn loops(tree: &Tree) -> BTreeSet<(String, String)> {
         }
         let text = read(path);
         let mut function = "";
-        for line in text.lines().map(str::trim_start) {
-            if let Some((_, rest)) = line.split_once("fn ").filter(|_| !line.starts_with("//")) {
+        let lines: Vec<&str> = text.lines().map(str::trim_start).filter(|line| !line.starts_with("//")).collect();
+        for (at, line) in lines.iter().enumerate() {
+            if let Some((_, rest)) = line.split_once("fn ") {
                 function = rest.split(['(', '<']).next().unwrap_or(rest);
             }
-            if line.starts_with("while ") || line.starts_with("loop ") || line.starts_with("for ") {
-                found.insert((format!("{}::{function}", names.join("::")), measure(tree, &names, function)));
+            let mut add = |bound| found.insert((format!("{}::{function}", names.join("::")), bound));
+            if line.starts_with("while ") || line.starts_with("loop ") {
+                add(measure(tree, &names, function));
+            } else if line.starts_with("for ") {
+                add(head_of(&lines[at..]));
+            }
+            for method in METHODS.iter().filter(|method| line.contains(&format!(".{method}("))) {
+                add(format!(".{method}(..)"));
             }
         }
     }
     found
+}
+
+/// The head of a `for`, which may take several lines.
+fn head_of(lines: &[&str]) -> String {
+    let mut head = String::new();
+    for line in lines {
+        if !head.is_empty() && !line.starts_with(['.', ')']) && !head.ends_with('(') {
+            head.push(' ');
+        }
+        head.push_str(line);
+        if let Some(whole) = head.strip_suffix(" {") {
+            return whole.to_string();
+        }
+    }
+    head
 }
 
 /// The measure of the one loop of a function, which stands in one of the files of its proof.
@@ -312,6 +338,12 @@ fn measures_are_read() {
     let new = "abbrev pub decreases-loop-i : goal.decreases-loop-i\ndecreases-loop-i l =\n    length l.w\n    - l.i + tail.x\n\nother = l.z\n";
     assert_eq!(measures_in(old), ["length w - i"]);
     assert_eq!(measures_in(new), ["length w - i + tail.x"]);
+}
+
+#[test]
+fn heads_are_read() {
+    assert_eq!(head_of(&["for x in list {", "}"]), "for x in list");
+    assert_eq!(head_of(&["for (a, b) in list", ".iter()", ".zip(other)", "{", "}"]), "for (a, b) in list.iter().zip(other)");
 }
 
 #[test]

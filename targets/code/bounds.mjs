@@ -12,7 +12,7 @@ import { NotUnderstood, constantBefore, graphOf, growth, longestPath, loopsOf, s
 const [folder, program, archive, loopsFile, prefix] = process.argv.slice(2);
 const functions = functionsOf(program);
 const { exported } = namesOf(archive);
-const { loopOf, hasLoop } = readModule(new URL('../../target/module/robequarry.ll', import.meta.url).pathname);
+const { loopOf, hasLoop, ownFrames } = readModule(new URL('../../target/module/robequarry.ll', import.meta.url).pathname);
 const home = new Map();
 for (const f of functions) for (const i of f.code) home.set(i.address, f);
 const homeOf = (address) => {
@@ -88,7 +88,7 @@ function partAt(entry) {
     if (parts.has(entry)) return parts.get(entry);
     const f = homeOf(entry);
     if (bounds.has(`${f.name} whole`)) return { f, names: new Set([f.name]) };
-    const graph = graphOf(f, entry), loops = loopsOf(f, graph), origins = originsOf(program, [...graph.nodes.keys()]);
+    const graph = graphOf(f, entry), loops = loopsOf(f, graph), origins = new Map([...originsOf(program, [...graph.nodes.keys()])].map(([a, frames]) => [a, ownFrames(frames)]));
     const part = { f, graph, loops, origins };
     nameLoops(part);
     part.names = new Set([f.name, ...[...origins.values()].flat().map(({ name }) => name)]);
@@ -116,7 +116,7 @@ function nameLoops({ f, loops, origins }) {
             if (k >= 0) names.set(frames[k].name, Math.min(frames.length - k, names.get(frames[k].name) ?? Infinity));
         }
         if (hasLoop(f.name) && !loop.around) names.set(f.name, names.get(f.name) ?? Infinity);
-        loop.name = [...names].sort((a, b) => a[1] - b[1])[0]?.[0] ?? `${kindOf(f.name)} loop ${loops.indexOf(loop) + 1}`;
+        loop.name = [...names].sort((a, b) => a[1] - b[1])[0]?.[0] ?? `${kindOf(f.name.replace(/::<.*/, ''))} loop ${loops.indexOf(loop) + 1}`;
         loop.path = loop.around ? `${loop.name} in ${loop.around.path}` : loop.name;
         loop.inside = new Set([loop.name, ...loop.ends.flatMap((a) => origins.get(a)).map(({ name }) => name)]);
     }

@@ -81,11 +81,11 @@ for (const f of functions) {
 console.log(`${folder}: ${total.bothWays} of ${total.branches} branches went both ways, ${total.bothSides} of ${total.blocks} IT blocks; ` +
     `${total.behind} stand in code that never runs; ${total.ran} of ${total.code} instructions ran`);
 
-const { whatOf } = readModule(new URL('../../target/module/robequarry.ll', import.meta.url).pathname);
+const { whatOf, ownFrames } = readModule(new URL('../../target/module/robequarry.ll', import.meta.url).pathname);
 const origins = originsOf(program, gaps.map(({ i }) => i.address));
 const lines = new Map();
 for (const { f, i, missing } of gaps) {
-    const origin = origins.get(i.address)[0] ?? { name: f.name, line: 0 };
+    const origin = ownFrames(origins.get(i.address))[0] ?? { name: f.name, line: 0 };
     const key = `${origin.name}\t${whatOf(origin.line)}`, places = lines.get(key) ?? [];
     places.push(`${f.name} ${i.address.toString(16)} ${i.name} not ${missing}`);
     lines.set(key, places);

@@ -9,13 +9,13 @@ use lib.ListN.{length, get_or, take, drop, length-take, length-drop, length-appe
 use lib.Seq.{take_all, get_or-take, get_or-drop, get_or-append-add}
 use lib.Dec.{ltb, eqb}
 use borrow.Author.Tests.{lt-ltb, le-ltb, eq-eqb, ne_eqb}
+use Rattle.std.specs.Prelude.{None}
 use Rattle.base.specs.Below.{first}
 use Rattle.base.proofs.BelowLaws.{first_step, first-stop}
 use Rattle.chart.specs.Outline.{Outline}
 use Rattle.convexity.specs.Frame.{Frame, frame_of}
 use Rattle.convexity.specs.Pieces.{rounds, piece, is_back_step, back_step_at, back_step_piece}
 use Rattle.pieces.specs.declared.Pair.{Pair}
-use Rattle.back_steps.specs.declared.BackStep.TheVariants.{None}
 use Rattle.pieces.specs.parts.Pieces.{PairOf, Laid}
 use Rattle.back_steps.specs.parts.BackSteps.{part, Within, Found, FoundAt}
 use Rattle.pieces.proofs.LaidLaws.{length-rounds, take-rounds, part-of-take, laid-rising, laid-within, laid-piece}

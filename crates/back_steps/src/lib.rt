@@ -15,15 +15,14 @@ fn some_back_step(piece: &[u8], k: usize) -> bool
 {
     let f = pieces::pair_at(k);
     let mut found = false;
-    let mut i = 0;
-    while i < piece.len() {
-        found = found | ((piece[i] != f.earlier) & (piece[i] != f.later));
-        i += 1;
+    for letter in piece {
+        found |= (*letter != f.earlier) & (*letter != f.later);
     }
     found
 }
 
-// Letter i of the letters read cyclically, up to four times round.
+// Letter i of the letters read cyclically, up to four times round. No remainder: it would be a division for each letter, and the smallest
+// controllers have none.
 fn letter_round(letters: &[u8], i: usize) -> u8
     requires { (length letters.now ≤ longest) × (i < 4 * length letters.now) }
     ensures { result ≡ get_or (rounds letters.now) i 0 }
@@ -48,15 +47,13 @@ fn first_back_step(letters: &[u8], from: usize, to: usize, k: usize) -> usize
     ensures { result ≡ straight_for k (part from to (rounds letters.now)) }
 {
     let f = pieces::pair_at(k);
-    let mut i = 0;
-    while i < to - from {
+    for i in 0..to - from {
         let letter = letter_round(letters, from + i);
         if letter != f.earlier && letter != f.later {
             return i;
         }
-        i += 1;
     }
-    i
+    to - from
 }
 
 // The same, but the place is only searched for if there is a back-step. A piece without one ends before the end of the letters.
@@ -70,34 +67,32 @@ fn straight_for(letters: &[u8], from: usize, to: usize, k: usize) -> usize
     to - from
 }
 
+// A back-step at letter `at` of the border, in a piece counted from 0.
 #[derive(Clone, Copy)]
-pub enum BackStep {
-    None,
-    // Letter `at` of the border, in a piece counted from 0.
-    At { piece: usize, at: usize },
+pub struct BackStep {
+    pub piece: usize,
+    pub at: usize,
 }
 
 // The first back-step of the four pieces, which lie between the cut places in the letters read cyclically.
-pub fn first(cuts: Cuts, letters: &[u8]) -> BackStep
+pub fn first(cuts: Cuts, letters: &[u8]) -> Option<BackStep>
     requires { length letters.now ≤ longest }
     ensures { Found (rounds letters.now) cuts.at result }
 {
     let at = cuts.at;
-    let mut k = 0;
-    while k < 4 {
+    for k in 0..4 {
         let from = at[k];
         let to = at[k + 1];
         if to < from || 4 * letters.len() < to {
-            return BackStep::None;
+            return None;
         }
         let i = straight_for(letters, from, to, k);
         if i < to - from {
-            return BackStep::At {
+            return Some(BackStep {
                 piece: k,
                 at: from + i,
-            };
+            });
         }
-        k += 1;
     }
-    BackStep::None
+    None
 }

@@ -146,6 +146,10 @@ first-none f n h = first-eq f n n (record { le = omega arith; found = λ l. absu
 pub first-is : (f : ℕ → Bool) (n i : ℕ) → i < n → ((j : ℕ) → j < i → f j ≡ false) → f i ≡ true → first f n ≡ i
 first-is f n i l h e = first-eq f n i (record { le = omega arith; found = λ l. e; before = h })
 
+-- A number that passes if it is below n, and before which none does
+pub is_first : (f : ℕ → Bool) (n m : ℕ) → m ≤ n → ((i : ℕ) → i < m → f i ≡ false) → (m < n → f m ≡ true) → m ≡ first f n
+is_first f n m l h e = sym (first-eq f n m (record { le = l; found = e; before = h }))
+
 -- If the first number is not below i, no number below i passes
 pub first-none-at : (f : ℕ → Bool) (i : ℕ) → first f i ≡ i → (j : ℕ) → j < i → f j ≡ false
 first-none-at f i e j l = first-before f i j (omega arith)

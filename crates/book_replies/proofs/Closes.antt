@@ -1,5 +1,6 @@
 -- The reply of a close is the verdict on its party's draft, so what is known of verdicts holds for closes in any list of calls. Its word
 -- depends on the cells of the outline last taken at its place.
+use Rattle.std.specs.Prelude.{Result, Ok, Err}
 use Prim.Native.Nat.{ℕ, ◌<◌}
 use mathlib.Core.Path.{◌≡◌, refl, sym, ap, ◌∙◌}
 use mathlib.Core.Logic.{◌↔◌}
@@ -11,8 +12,9 @@ use Rattle.chart.specs.Outline.{Outline}
 use Rattle.chart.specs.Fields.{verdict_fields}
 use Rattle.chart.specs.declared.Point.{Point}
 use Rattle.chart.specs.declared.Refusal.TheVariants.{Dent}
-use Rattle.chart.specs.declared.Verdict.{Verdict}
-use Rattle.chart.specs.declared.Verdict.TheVariants.{Taken, Refused}
+use Rattle.chart.specs.declared.Refusal.{Refusal}
+use Rattle.chart.specs.declared.Taken.{Taken}
+use Rattle.chart.specs.Taken.{taken_with}
 use Rattle.lattice.specs.Hull.{Missing, LowestMissing, Convex}
 use Rattle.lattice.specs.Refusals.{Simple}
 use Rattle.convexity.specs.Clockwise.{block}
@@ -24,11 +26,10 @@ use Rattle.verdict.proofs.VerdictLaws.{taken-facts}
 use Rattle.verdict.proofs.Cells.{nine-iff-missing, verdict-named}
 use Rattle.verdict.proofs.Convex.{eight-missing, taken-iff-convex}
 use Rattle.calls.specs.Calls.{parties, places, by}
-use Rattle.calls.specs.Replies.{reply_fields}
+use Rattle.calls.specs.Replies.{Reply, reply_fields}
 use Rattle.calls.specs.declared.Call.{Call}
 use Rattle.calls.specs.declared.Action.TheVariants.{Close}
-use Rattle.calls.specs.declared.Reply.{Reply}
-use Rattle.calls.specs.declared.Reply.TheVariants.{Same, Refused as WasRefused}
+use Rattle.calls.specs.declared.Answer.TheVariants.{Same}
 use Rattle.holder_model.specs.Book.{Entry, drafted, at_work, fresh, equals_work, closed_reply, closes, acts, answer, book_after}
 use Rattle.holder_model.specs.LastTaken.{last_taken}
 use Rattle.holder_model.proofs.LastTaken.{work-last-taken}
@@ -37,24 +38,27 @@ use Rattle.book_replies.specs.After.{reply_to}
 use Rattle.book_replies.proofs.Taken.{reply-after, last-working}
 
 -- The reply of a close has the verdict's number and cell
-closed-number : (t : Bool) (v : Verdict) → (reply_fields (closed_reply t v)).number ≡ (verdict_fields v).number
+closed-number : (t : Bool) (v : Result Taken Refusal) → (reply_fields (closed_reply t v)).number ≡ (verdict_fields v).number
 unfolding closed_reply reply_fields
-closed-number t (Refused f) = refl
-closed-number true (Taken n a) = refl
-closed-number false (Taken n a) = refl
+closed-number t (Err f) = refl
+closed-number true (Ok t) = refl
+closed-number false (Ok t) = refl
 
-closed-named : (o : Outline) (t : Bool) (v : Verdict) → CellNamed o (verdict_fields v) → CellNamed o (reply_fields (closed_reply t v))
+closed-named : (o : Outline) (t : Bool) (v : Result Taken Refusal) → CellNamed o (verdict_fields v)
+    → CellNamed o (reply_fields (closed_reply t v))
 unfolding closed_reply reply_fields
-closed-named o t (Refused f) c = c
-closed-named o true (Taken n a) c = record { anchor = c.anchor; missing = c.missing }
-closed-named o false (Taken n a) c = record { anchor = c.anchor; missing = c.missing }
+closed-named o t (Err f) c = c
+closed-named o true (Ok t) c = record { anchor = c.anchor; missing = c.missing }
+closed-named o false (Ok t) c = record { anchor = c.anchor; missing = c.missing }
 
 -- The word is "same" if the draft is taken and has the block at work
-closed_same : (t : Bool) (v : Verdict) (n : ℕ) (a : Point) → (closed_reply t v ≡ Same n a) ↔ ((v ≡ Taken n a) × (t ≡ true))
+closed_same : (t : Bool) (v : Result Taken Refusal) (n : ℕ) (a : Point)
+    → (closed_reply t v ≡ Ok (Same n a)) ↔ ((v ≡ taken_with n a) × (t ≡ true))
 unfolding closed_reply
-closed_same t (Refused f) n a = (λ e. (cc, cc), λ e. let z : ◌≡◌ {A = Reply} (WasRefused f) (Same n a) = cc e.0 in z)
-closed_same true (Taken m b) n a = (λ e. (cc, refl), λ e. let z = e.0 in cc)
-closed_same false (Taken m b) n a = (λ e. (cc, cc), λ e. let z = e.1 in cc)
+closed_same t (Err f) n a = (λ e. (cc, cc), λ e. let z : ◌≡◌ {A = Reply} (Err f) (Ok (Same n a)) = cc e.0 in z)
+closed_same true (Ok t) n a =
+    (λ e. let x : t.edges ≡ n = cc in let y : t.anchor ≡ a = cc in (λ i. taken_with (x i) (y i), refl), λ e. let z = e.0 in cc)
+closed_same false (Ok t) n a = (λ e. (cc, cc), λ e. let z = e.1 in cc)
 
 -- A close by party p at place k after a list of calls, with the draft o
 module _ (p k : ℕ) (there : p < parties) (inside : k < places) (cs : List Entry) (o : Outline)
@@ -75,7 +79,7 @@ module _ (p k : ℕ) (there : p < parties) (inside : k < places) (cs : List Entr
 
   -- "Same" exactly if the draft is taken and has the cells of the outline last taken (contract 7.7)
   pub close-same : (v : Outline) → last_taken p k cs ≡ some v → (n : ℕ) (a : Point)
-      → (reply_to cs (by p (Close k)) ≡ Same n a) ↔ ((verdict_of o ≡ Taken n a) × SameCells o v)
+      → (reply_to cs (by p (Close k)) ≡ Ok (Same n a)) ↔ ((verdict_of o ≡ taken_with n a) × SameCells o v)
   unfolding equals_work
   close-same v last n a = (
     λ e.
@@ -87,7 +91,7 @@ module _ (p k : ℕ) (there : p < parties) (inside : k < places) (cs : List Entr
     ),
   )
     where
-      same : verdict_of o ≡ Taken n a → (equals_work o (some v) ≡ true) ↔ SameCells o v
+      same : verdict_of o ≡ taken_with n a → (equals_work o (some v) ≡ true) ↔ SameCells o v
       same t = same-block-iff o v (taken-facts o n a t).reaches.simple (last-working p k cs v last).reaches.simple
 
   -- If the draft passes 1 to 8, the number is 9 exactly if some cell is missing (contract 8.4)
@@ -105,7 +109,7 @@ module _ (p k : ℕ) (there : p < parties) (inside : k < places) (cs : List Entr
   pub close-named : CellNamed o (reply_fields (reply_to cs (by p (Close k))))
   close-named = rw close-reply (closed-named o (equals_work o (last_taken p k cs)) (verdict_of o) (verdict-named o))
 
-  pub close-names-lowest : (i q l : ℕ) (x : Point) → reply_to cs (by p (Close k)) ≡ WasRefused (Dent i q l x) → LowestMissing (block o) x
+  pub close-names-lowest : (i q l : ℕ) (x : Point) → reply_to cs (by p (Close k)) ≡ Err (Dent i q l x) → LowestMissing (block o) x
   unfolding reply_fields
-  close-names-lowest i q l x e = let named : CellNamed o (reply_fields (WasRefused (Dent i q l x))) = rw e at close-named in
+  close-names-lowest i q l x e = let named : CellNamed o (reply_fields (Err (Dent i q l x))) = rw e at close-named in
       named.missing refl

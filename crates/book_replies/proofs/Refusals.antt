@@ -1,5 +1,6 @@
 -- Numbers 19 and 20 come from the party and the place alone, 12 from what is at work, and 11 from the question, because every other reply
 -- has another number.
+use Rattle.std.specs.Prelude.{Result, Ok, Err}
 use Prim.Native.Nat.{ℕ, ◌≤◌, ◌<◌}
 use native.Mathlib.Omega.{arith}
 use mathlib.Core.Path.{◌≡◌, refl, sym, ◌∙◌}
@@ -14,37 +15,33 @@ use Rattle.chart.specs.Limits.{side, longest}
 use Rattle.chart.specs.Outline.{Outline}
 use Rattle.chart.specs.Fields.{verdict_fields}
 use Rattle.chart.specs.declared.Point.{Point}
+use Rattle.chart.specs.declared.Refusal.{Refusal}
 use Rattle.chart.specs.declared.Refusal.TheVariants.{Cell, Place}
-use Rattle.chart.specs.declared.Verdict.{Verdict}
-use Rattle.chart.specs.declared.Verdict.TheVariants.{Taken, Refused}
+use Rattle.chart.specs.declared.Taken.{Taken}
 use Rattle.lattice.specs.Refusals.{bad_start}
 use Rattle.convexity.specs.Clockwise.{border, block}
 use Rattle.convexity.specs.Pieces.{edges}
-use Rattle.spans.specs.declared.Span.{Span}
-use Rattle.spans.specs.declared.Span.TheVariants.{None as Empty, Columns as Across}
-use Rattle.spans.specs.Spans.{row_span, span_reply}
+use Rattle.std.specs.Prelude.{Some, None as Empty}
+use Rattle.spans.specs.Spans.{Span, row_span, span_reply}
 use Rattle.verdict.specs.Verdict.{verdict_of}
 use Rattle.verdict.proofs.VerdictLaws.{verdict-number}
 use Rattle.polygon.specs.Loose.{bad_cell}
 use Rattle.readings.specs.declared.Located.{Located}
 use Rattle.readings.specs.declared.Located.TheVariants.{Inside as IsInside, Outside as IsOutside, Undecided as IsUndecided}
-use Rattle.readings.specs.declared.Located.TheVariants.{Refused as IsRefused}
 use Rattle.readings.specs.Located.{bad_reading, located_of}
 use Rattle.readings.specs.Replies.{located_reply}
-use Rattle.readings.proofs.Agreement.{refused-iff}
-use Rattle.drawing.specs.declared.Stroke.{Stroke}
-use Rattle.drawing.specs.declared.Stroke.TheVariants.{Move, Line, Close as Closing, None as NoStroke}
-use Rattle.drawing.specs.Drawing.{stroke_at}
+use Rattle.readings.proofs.Agreement.{refused-bad, refused-iff}
+use Rattle.drawing.specs.declared.Stroke.TheVariants.{Move, Line, Close as Closing}
+use Rattle.drawing.specs.Drawing.{Command, stroke_at}
 use Rattle.drawing.specs.Points.{piece_of, drawn_reply}
 use Rattle.calls.specs.Calls.{parties, places, bad_party, bad_place, by}
-use Rattle.calls.specs.Replies.{reply_fields, piece_fields}
+use Rattle.calls.specs.Replies.{Reply, reply_fields, piece_fields}
 use Rattle.calls.specs.declared.Call.{Call}
 use Rattle.calls.specs.declared.Action.{Action}
 use Rattle.calls.specs.declared.Action.TheVariants.{Begin, Add, Drop, Clear, Close, Ask}
 use Rattle.calls.specs.declared.Question.{Question}
 use Rattle.calls.specs.declared.Question.TheVariants.{Cell as OfCell, Row as OfRow, Reading as OfReading, Piece as OfPiece}
-use Rattle.calls.specs.declared.Reply.{Reply}
-use Rattle.calls.specs.declared.Reply.TheVariants.{Inside, Outside, Refused as WasRefused}
+use Rattle.calls.specs.declared.Answer.TheVariants.{Inside, Outside}
 use Rattle.holder_model.specs.Book.{Entry, PartyModel, OnDraft, OnParty, fresh, begins, adds, drops, equals_work, closed_reply, closes}
 use Rattle.holder_model.specs.Book.{asked, asked_row, asked_reading, asked_piece, asks, acts, answer, book_after}
 use Rattle.holder_model.specs.LastTaken.{last_taken}
@@ -67,55 +64,55 @@ on_chart : (q : Question) (r : Reply) → off_chart q ≡ false → number r ≡
 on_chart q r on e =
     record { low = omega (arith, e); off = (λ f. absurd (omega (arith, e, f)), λ f. absurd (true≢false (sym f ∙ on))) }
 
-off_chart-answer : (q : Question) → off_chart q ≡ true → Answers q (WasRefused Cell)
+off_chart-answer : (q : Question) → off_chart q ≡ true → Answers q (Err Cell)
 unfolding reply_fields
 off_chart-answer q on = record { low = omega arith; off = (λ f. on, λ f. refl) }
 
 span-zero : (s : Span) → number (span_reply s) ≡ 0
 unfolding span_reply reply_fields
 span-zero Empty = refl
-span-zero (Across a b) = refl
+span-zero (Some t) = refl
 
-inside-zero : (t : Bool) → number (cond t Inside Outside) ≡ 0
+inside-zero : (t : Bool) → number (cond t (Ok Inside) (Ok Outside)) ≡ 0
 unfolding reply_fields
 inside-zero true = refl
 inside-zero false = refl
 
-located-zero : (l : Located) → (l ≡ IsRefused → ⊥) → number (located_reply l) ≡ 0
+located-zero : (l : Result Located Refusal) → ((why : Refusal) → l ≡ Err why → ⊥) → number (located_reply l) ≡ 0
 unfolding located_reply reply_fields
-located-zero IsInside e = refl
-located-zero IsOutside e = refl
-located-zero IsUndecided e = refl
-located-zero IsRefused e = absurd (e refl)
+located-zero (Ok IsInside) e = refl
+located-zero (Ok IsOutside) e = refl
+located-zero (Ok IsUndecided) e = refl
+located-zero (Err why) e = absurd (e why refl)
 
-stroke-zero : (s : Stroke) → number (drawn_reply s) ≡ 0
+stroke-zero : (s : Command) → number (drawn_reply s) ≡ 0
 unfolding drawn_reply piece_of reply_fields piece_fields
-stroke-zero (Move c) = refl
-stroke-zero (Line c) = refl
-stroke-zero Closing = refl
-stroke-zero NoStroke = refl
+stroke-zero (Some (Move c)) = refl
+stroke-zero (Some (Line c)) = refl
+stroke-zero (Some Closing) = refl
+stroke-zero Empty = refl
 
 asks-some : (q : Question) (o : Outline) → Answers q (asks q (some o))
 unfolding asks asked asked_row asked_reading asked_piece off_chart
 asks-some (OfCell x) o = go (bad_cell x) refl
   where
-    go : (t : Bool) → bad_cell x ≡ t → Answers (OfCell x) (cond t (WasRefused Cell) (cond (block o x.col x.row) Inside Outside))
+    go : (t : Bool) → bad_cell x ≡ t → Answers (OfCell x) (cond t (Err Cell) (cond (block o x.col x.row) (Ok Inside) (Ok Outside)))
     go true e = off_chart-answer (OfCell x) e
     go false e = on_chart (OfCell x) _ e (inside-zero (block o x.col x.row))
 asks-some (OfRow r) o = go (leb side r) refl
   where
-    go : (t : Bool) → leb side r ≡ t → Answers (OfRow r) (cond t (WasRefused Cell) (span_reply (row_span (block o) r)))
+    go : (t : Bool) → leb side r ≡ t → Answers (OfRow r) (cond t (Err Cell) (span_reply (row_span (block o) r)))
     go true e = off_chart-answer (OfRow r) e
     go false e = on_chart (OfRow r) _ e (span-zero (row_span (block o) r))
 asks-some (OfReading x) o = go (bad_reading x) refl
   where
     go : (t : Bool) → bad_reading x ≡ t → Answers (OfReading x) (located_reply (located_of (border o).start (edges (border o)) x))
     go true e =
-        let f : located_of (border o).start (edges (border o)) x ≡ IsRefused = (refused-iff (border o).start (edges (border o)) x).1 e in
+        let f : located_of (border o).start (edges (border o)) x ≡ Err Cell = (refused-iff (border o).start (edges (border o)) x).1 e in
         rw f (unfold located_reply in off_chart-answer (OfReading x) e)
     go false e =
         on_chart (OfReading x) _ e
-        (located-zero _ (λ f. true≢false (sym ((refused-iff (border o).start (edges (border o)) x).0 f) ∙ e)))
+        (located-zero _ (λ why f. true≢false (sym (refused-bad (border o).start (edges (border o)) x f) ∙ e)))
 asks-some (OfPiece n) o = on_chart (OfPiece n) _ refl (stroke-zero (stroke_at (border o).start (edges (border o)) n))
 
 asks_none : (q : Question) → number (asks q none) ≡ 12
@@ -131,11 +128,11 @@ asks-small : (q : Question) (w : Option Outline) → number (asks q w) ≤ 16
 asks-small q none = omega (arith, asks_none q)
 asks-small q (some o) = omega (arith, (asks-some q o).low)
 
-closed-small : (t : Bool) (v : Verdict) → (verdict_fields v).number ≤ 9 → number (closed_reply t v) ≤ 16
+closed-small : (t : Bool) (v : Result Taken Refusal) → (verdict_fields v).number ≤ 9 → number (closed_reply t v) ≤ 16
 unfolding closed_reply reply_fields
-closed-small t (Refused f) h = omega (arith, h)
-closed-small true (Taken n a) h = omega arith
-closed-small false (Taken n a) h = omega arith
+closed-small t (Err f) h = omega (arith, h)
+closed-small true (Ok t) h = omega arith
+closed-small false (Ok t) h = omega arith
 
 closes-small : (d w : Option Outline) → number (closes d w).reply ≤ 16
 unfolding closes reply_fields
@@ -170,11 +167,11 @@ record Placed (a : Action) (r : Reply) : Type 0 where
 small : (a : Action) (r : Reply) → no_such_place a ≡ false → number r ≤ 16 → Placed a r
 small a r e s = record { low = λ f. s; high = λ f. absurd (true≢false (sym f ∙ e)) }
 
-twenty : (a : Action) → no_such_place a ≡ true → Placed a (WasRefused Place)
+twenty : (a : Action) → no_such_place a ≡ true → Placed a (Err Place)
 unfolding reply_fields
 twenty a e = record { low = λ f. absurd (true≢false (sym e ∙ f)); high = λ f. refl }
 
-by_place : (a : Action) (t : Bool) → no_such_place a ≡ t → (x y : OnParty) → x.reply ≡ WasRefused Place → number y.reply ≤ 16
+by_place : (a : Action) (t : Bool) → no_such_place a ≡ t → (x y : OnParty) → x.reply ≡ Err Place → number y.reply ≤ 16
     → Placed a (cond t x y).reply
 by_place a true e x y n s = rw n (twenty a e)
 by_place a false e x y n s = small a y.reply e s
@@ -188,7 +185,7 @@ acts-placed g (Clear k) = by_place (Clear k) (bad_place k) refl _ _ refl (unfold
 acts-placed g (Close k) = by_place (Close k) (bad_place k) refl _ _ refl (closes-small g.draft (g.works k))
 acts-placed g (Ask k q) = go (bad_place k) refl
   where
-    go : (t : Bool) → bad_place k ≡ t → Placed (Ask k q) (cond t (WasRefused Place) (asks q (g.works k)))
+    go : (t : Bool) → bad_place k ≡ t → Placed (Ask k q) (cond t (Err Place) (asks q (g.works k)))
     go true e = twenty (Ask k q) e
     go false e = small (Ask k q) _ e (asks-small q (g.works k))
 

@@ -1,4 +1,5 @@
 -- The outline last taken at a place passed the test, because only a close and a restore put an outline to work, and only by its verdict.
+use Rattle.std.specs.Prelude.{Result, Ok, Err}
 use Prim.Native.Nat.{ℕ}
 use native.Mathlib.Omega.{arith}
 use mathlib.Core.Path.{◌≡◌, refl, sym, ◌∙◌}
@@ -9,8 +10,9 @@ use lib.Dec.{eqb}
 use Rattle.base.specs.Put.{put}
 use Rattle.chart.specs.Outline.{Outline}
 use Rattle.chart.specs.declared.Point.{Point}
-use Rattle.chart.specs.declared.Verdict.{Verdict}
-use Rattle.chart.specs.declared.Verdict.TheVariants.{Taken, Refused}
+use Rattle.chart.specs.declared.Refusal.{Refusal}
+use Rattle.chart.specs.declared.Taken.{Taken}
+use Rattle.chart.specs.Taken.{taken_with}
 use Rattle.convexity.specs.Clockwise.{border}
 use Rattle.convexity.specs.Pieces.{Reaches, dent_piece}
 use Rattle.verdict.specs.Verdict.{verdict_of}
@@ -35,7 +37,7 @@ reply-after cs c = refl
 pub record WasTaken (o : Outline) : Type 0 where
   pub edges : ℕ
   pub anchor : Point
-  pub verdict : verdict_of o ≡ Taken edges anchor
+  pub verdict : verdict_of o ≡ taken_with edges anchor
 
 -- None is no outline
 nothing : {A : Type 0} {o : Outline} → none ≡ some o → A
@@ -60,9 +62,9 @@ unfolding closes work_after
 closed-known none w was o e = was o e
 closed-known (some d) w was o e = go (verdict_of d) refl e
   where
-    go : (v : Verdict) → verdict_of d ≡ v → work_after w d v ≡ some o → WasTaken o
-    go (Refused f) q e = was o e
-    go (Taken n a) q e = let same : d ≡ o = cc in record { edges = n; anchor = a; verdict = rw (sym same) q }
+    go : (v : Result Taken Refusal) → verdict_of d ≡ v → work_after w d v ≡ some o → WasTaken o
+    go (Err f) q e = was o e
+    go (Ok t) q e = let same : d ≡ o = cc in record { edges = t.edges; anchor = t.anchor; verdict = rw (sym same) q }
 
 either : (t : Bool) (x y : OnParty) → Known x.page.works → Known y.page.works → Known (cond t x y).page.works
 either true x y k l = k

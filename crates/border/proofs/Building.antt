@@ -11,7 +11,7 @@ use Rattle.convexity.specs.Edges.{Edge, pairs}
 use Rattle.convexity.specs.Frame.{frame_of}
 use Rattle.convexity.specs.FromEdges.{quadrant_of, run_in, rise_in, letters_from, step_count}
 use Rattle.convexity.proofs.FromEdges.{length-letters}
-use Rattle.edge_walk.proofs.Loop.{edge_at, next_edge, no_edge}
+use Rattle.edge_walk.proofs.Loop.{Chunk, next_edge, no_edge}
 use Rattle.border_model.specs.parts.Ordered.{Ordered}
 use Rattle.border.specs.parts.Rest.{rest, firsts, letters, step_letters}
 use Rattle.border.specs.parts.Wrote.{Wrote}
@@ -97,23 +97,20 @@ module _ {es : List ℤ} {before list : List ℕ} {at p i : ℕ} (b : Building e
         length-take-le at list (let l : at ≤ length list = omega (arith, b.sized, b.within) in l),
       )
 
-  module _ (more : i + 1 < length es) where
-    abbrev dx : ℤ
-    dx = (edge_at es i).0
-
-    abbrev dy : ℤ
-    dy = (edge_at es i).1
+  module _ {dx dy : ℤ} (edge : Chunk es dx dy i) where
+    next-here : pairs (drop i es) ≡ (dx, dy) ∷ pairs (drop (i + 2) es)
+    next-here = next_edge es i edge.inside ∙ rw (edge.across, edge.up)
 
     pub first-here : First p dx dy (pairs (drop (i + 2) es))
-    first-here = first_of (subst (Ordered p) (next_edge es i more) b.ordered)
+    first-here = first_of (subst (Ordered p) next-here b.ordered)
 
     rest-here : rest (3 - p) p (pairs (drop i es))
         ≡ step_letters p dx dy ++ rest (3 - quadrant_of dx dy) (quadrant_of dx dy) (pairs (drop (i + 2) es))
     unfolding step_letters
     rest-here =
         let f = first-here in
-        ap (rest (3 - p) p) (next_edge es i more)
-        ∙ rest-next p dx dy (pairs (drop (i + 2) es)) (subst (Ordered p) (next_edge es i more) b.ordered) f.from f.small
+        ap (rest (3 - p) p) next-here
+        ∙ rest-next p dx dy (pairs (drop (i + 2) es)) (subst (Ordered p) next-here b.ordered) f.from f.small
         f.others
 
     -- There is room for the edge
@@ -135,6 +132,7 @@ module _ {es : List ℤ} {before list : List ℕ} {at p i : ℕ} (b : Building e
     building-step {after} w =
         let f = first-here in
         let k = quadrant_of dx dy in
+        let inside = edge.inside in
         let e : at + (k - p) + (nat_abs dx + nat_abs dy) ≡ at + length (step_letters p dx dy) = omega (arith, length-step p dx dy) in
         record {
           sized = w.sized ∙ b.sized;
@@ -166,10 +164,10 @@ module _ {es : List ℤ} {before list : List ℕ} {at p i : ℕ} (b : Building e
 -- ---- how many letters there will be
 
 pub steps_next :
-    (es : List ℤ) (i : ℕ) → i + 1 < length es
-    → step_count (pairs (drop i es)) ≡ nat_abs (edge_at es i).0 + nat_abs (edge_at es i).1 + step_count (pairs (drop (i + 2) es))
+    {es : List ℤ} {dx dy : ℤ} {i : ℕ} → Chunk es dx dy i
+    → step_count (pairs (drop i es)) ≡ nat_abs dx + nat_abs dy + step_count (pairs (drop (i + 2) es))
 unfolding step_count
-steps_next es i h = rw (next_edge es i h)
+steps_next {es} {i = i} e = rw (next_edge es i e.inside, e.across, e.up)
 
 pub steps-end : (es : List ℤ) (i : ℕ) → length es ≤ i + 1 → step_count (pairs (drop i es)) ≡ 0
 unfolding step_count

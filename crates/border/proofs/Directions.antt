@@ -1,16 +1,14 @@
--- Quadrants, absolute values and runs by the machine's tests: each pair of signs is a clause of the definition.
+-- Quadrants and runs by the machine's tests: each pair of signs is a clause of the definition.
 use Prim.Native.Nat.{ℕ, zero, suc, ◌%◌}
 use native.Mathlib.Omega.{arith}
-use mathlib.Core.Path.{◌≡◌, refl, subst}
-use mathlib.Core.Bool.{true, false, cond}
-use lib.Dec.{T}
-use lib.IntN.{ℤ, pos, negsuc, nat_abs, neg_ℤ, ◌-ℤ◌}
-use lib.Signed.{non_neg, lt_z}
-use mir.Syntax.{w16, w64}
-use mir.Val.{Fits, SFits}
-use borrow.Author.Tests.{ltb-true, le-ltb}
+use mathlib.Core.Path.{◌≡◌, refl}
+use mathlib.Core.Bool.{cond}
+use lib.IntN.{ℤ, pos, negsuc, nat_abs, neg_ℤ}
+use lib.Signed.{lt_z}
+use borrow.Author.Tests.{le-ltb}
 use Rattle.convexity.specs.FromEdges.{quadrant_of, run_in}
 use Rattle.directions.specs.Round.{positive}
+use Rattle.polygon.proofs.Integers.{positive-machine}
 
 pub below-machine : (a : ℤ) → lt_z a (pos 0) ≡ positive (neg_ℤ a)
 unfolding positive
@@ -35,29 +33,7 @@ quadrant-tests (negsuc a) (pos zero) = refl
 quadrant-tests (negsuc a) (pos (suc b)) = refl
 quadrant-tests (negsuc a) (negsuc b) = refl
 
--- ---- absolute values
-
--- A negative number, negated, fits 64 bits, signed and unsigned
-pub record Negated (x : ℤ) : Type 0 where
-  pub sfits : SFits w64 (pos 0 -ℤ x)
-  pub nonneg : T (non_neg (pos 0 -ℤ x))
-  pub fits : Fits w64 (nat_abs (pos 0 -ℤ x))
-  pub size : nat_abs (pos 0 -ℤ x) ≡ nat_abs x
-
-pub negated : (x : ℤ) → SFits w16 x → lt_z x (pos 0) ≡ true → Negated x
-negated (pos n) f e = absurd (omega (arith, ltb-true n 0 e))
-negated (negsuc n) f e =
-    record {
-      sfits = record { sfits = omega (arith, f.sfits) };
-      nonneg = tt;
-      fits = record { fits = omega (arith, f.sfits) };
-      size = omega arith;
-    }
-
--- Any other number stays as it is
-pub kept : (x : ℤ) → SFits w16 x → lt_z x (pos 0) ≡ false → T (non_neg x) × Fits w64 (nat_abs x)
-kept (pos n) f e = (tt, record { fits = omega (arith, f.sfits) })
-kept (negsuc n) f e = absurd (subst T e tt)
+pub ruleset quadrants = (quadrant-tests, positive-machine, below-machine)
 
 -- ---- runs alternate
 
@@ -72,3 +48,5 @@ unfolding run_in
 run-odd zero dx dy h = absurd (h refl)
 run-odd (suc zero) dx dy h = refl
 run-odd (suc (suc k)) dx dy h = run-odd k dx dy (λ e. h (omega arith))
+
+pub ruleset runs = (run-even, run-odd)

@@ -5,7 +5,6 @@ use native.Mathlib.Omega.{arith}
 use mathlib.Core.Path.{◌≡◌, refl, sym, ap, ◌∙◌}
 use mathlib.Core.Bool.{Bool, true, false, not}
 use mathlib.Core.List.{[], ◌∷◌, ◌++◌}
-use lib.Dec.{ltb}
 use borrow.Author.Tests.{lt-ltb, le-ltb}
 use Rattle.words.specs.Word.{Word}
 use Rattle.words.specs.Counted.{listed, counted_letter}
@@ -46,3 +45,5 @@ pub listed_next : (f : ℕ → Bool) (n : ℕ) → listed f (suc n) ≡ listed f
 unfolding listed
 listed_next f zero = refl
 listed_next f (suc n) = ap (λ (w : Word). f zero ∷ w) (listed_next (λ i. f (suc i)) n)
+
+pub ruleset nexts = (next-below, next-above)

@@ -6,7 +6,7 @@ use mathlib.Core.Path.{◌≡◌, refl, sym, ap, ◌∙◌}
 use mathlib.Core.List.{List, [], ◌∷◌, ◌++◌, append_assoc, append-nil}
 use lib.IntN.{ℤ}
 use borrow.Author.Tests.{eq-eqb, ne_eqb}
-use Rattle.words.specs.Counted.{listed, edge_word, edges_word}
+use Rattle.words.specs.Counted.{edge_word, edges_word}
 use Rattle.words.proofs.Counted.{edge-listed}
 use Rattle.convexity.specs.Edges.{Edge, pairs}
 use Rattle.convexity.specs.Frame.{frame_of}

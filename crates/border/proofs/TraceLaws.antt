@@ -1,6 +1,7 @@
 -- The letters are built in an array with room for the longest outline, and tested. More letters than that are refused by 1.
 use Prim.Native.Nat.{ℕ, ◌+◌, ◌≤◌, ◌<◌}
 use native.Mathlib.Omega.{arith}
+use Rattle.std.specs.Prelude.{Ok, Err}
 use mathlib.Core.Path.{◌≡◌, sym, ap, ◌∙◌}
 use mathlib.Core.Bool.{true, false}
 use mathlib.Core.List.{List, ◌++◌}
@@ -19,7 +20,6 @@ use Rattle.convexity.specs.FromEdges.{letters_from, step_count}
 use Rattle.convexity.proofs.FromEdges.{length-letters}
 use Rattle.directions.specs.Increasing.{bad_directions}
 use Rattle.polygon.specs.Loose.{bad_list, bad_cell}
-use Rattle.border_model.specs.declared.Traced.TheVariants.{Written, Refused}
 use Rattle.border_model.specs.Outlined.{taken_as, outlined}
 use Rattle.border_model.specs.Named.{Answers}
 use Rattle.border_model.proofs.Outlines.{taken-has, taken_as-iff}
@@ -40,7 +40,7 @@ module _ (a : Point) (es : List ℤ) where
 
   module _ (buffer : List ℕ) (listed : bad_list es ≡ false) (anchored : bad_cell a ≡ false) (turned : bad_directions es ≡ false) {n : ℕ}
       (e : n ≡ 4 + step_count (pairs es)) where
-    pub long-none : longest < n → Answers a es buffer buffer (Refused NoOutline)
+    pub long-none : longest < n → Answers a es buffer buffer (Err NoOutline)
     long-none h = traced-none a es buffer listed anchored turned (too_many (omega arith))
 
     -- The letters built are the first n of a list
@@ -55,13 +55,13 @@ module _ (a : Point) (es : List ℤ) where
       unfolding outlined
       tested = rw letters-are
 
-      pub untaken-none : taken_as (outline a (take n list)) a es ≡ false → Answers a es buffer buffer (Refused NoOutline)
+      pub untaken-none : taken_as (outline a (take n list)) a es ≡ false → Answers a es buffer buffer (Err NoOutline)
       untaken-none h = traced-none a es buffer listed anchored turned (sym tested ∙ h)
 
       module _ (h : taken_as (outline a (take n list)) a es ≡ true) where
-        pub short_none : length buffer < n → Answers a es buffer buffer (Refused LetterBuffer)
+        pub short_none : length buffer < n → Answers a es buffer buffer (Err LetterBuffer)
         short_none l = traced-short a es buffer listed anchored turned (sym tested ∙ h) (omega (arith, count-is))
 
-        pub copied : {after : List ℕ} → n ≤ length buffer → after ≡ take n list ++ drop n buffer → Answers a es buffer after (Written n)
+        pub copied : {after : List ℕ} → n ≤ length buffer → after ≡ take n list ++ drop n buffer → Answers a es buffer after (Ok n)
         copied l d =
             rw (d, letters-are, count-is) (traced-written a es buffer listed anchored turned (sym tested ∙ h) (omega (arith, count-is)))

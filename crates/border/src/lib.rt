@@ -1,7 +1,7 @@
 // Writes the border of an anchor and edges (contract 6.3). The letters are built in a local array, tested, and then copied to the buffer.
 #![tactic(auto)]
 
-ghost use Rattle.std.specs.Prelude.{◌+◌, ◌≤◌, ◌≡◌, false, ◌++◌, length, take, drop};
+ghost use Rattle.std.specs.Prelude.{◌+◌, ◌≤◌, ◌≡◌, false, length};
 ghost use Rattle.chart.specs.Limits.{longest_list};
 ghost use Rattle.chart.specs.Outline.{outline};
 ghost use Rattle.convexity.specs.Edges.{pairs};
@@ -12,9 +12,8 @@ ghost use Rattle.border_model.specs.Outlined.{taken_as};
 ghost use Rattle.border_model.specs.Traced.{traced_of, traced_fields, letters_after};
 ghost use Rattle.border_model.specs.Named.{BorderNamed, Answers};
 
-use border_model::Traced;
-use chart::{LONGEST, MOST_NUMBERS, Point, Refusal, Verdict};
-use equality::{same_numbers, same_point};
+use chart::{LONGEST, MOST_NUMBERS, Point, Refusal};
+use equality::same_edges;
 use polygon::{bad_cell, bad_directions, bad_list};
 
 mod direction;
@@ -26,12 +25,9 @@ fn count(edges: &[i16]) -> usize
     ensures { result ≡ 4 + step_count (pairs edges.now) }
 {
     let mut letters = 4;
-    let mut i = 0;
-    while i + 1 < edges.len() {
-        let dx = edges[i];
-        let dy = edges[i + 1];
+    let (list, _) = edges.as_chunks::<2>();
+    for &[dx, dy] in list {
         letters += direction::size(dx) + direction::size(dy);
-        i += 2;
     }
     letters
 }
@@ -41,66 +37,50 @@ fn taken_as(anchor: Point, letters: &[u8], edges: &[i16]) -> bool
     ensures { result ≡ taken_as (outline anchor letters.now) anchor edges.now }
 {
     let mut numbers = [0i16; MOST_NUMBERS];
-    let verdict = outline::test(anchor, letters, &mut numbers);
-    match verdict {
-        Verdict::Refused(_) => false,
-        Verdict::Taken {
-            edges: count,
-            anchor: found,
-        } => {
-            let n = 2 * (count as usize);
-            same_point(found, anchor) && same_numbers(&numbers[..n], edges)
+    match outline::test(anchor, letters, &mut numbers) {
+        Err(_) => false,
+        Ok(taken) => {
+            let n = 2 * usize::from(taken.edges);
+            same_edges(taken.anchor, &numbers[..n], anchor, edges)
         }
     }
 }
 
-// Copies the first n letters of a list to the front of the buffer.
-fn copy(list: &[u8], n: usize, letters: &mut [u8])
-    requires { (n ≤ length list.now) × (n ≤ length letters.old) }
-    ensures { letters.new ≡ take n list.now ++ drop n letters.old }
-{
-    let mut i = 0;
-    while i < n {
-        letters[i] = list[i];
-        i += 1;
-    }
-}
-
 // Checks 17 and 18 for edges that pass 10, 11 and 16, or writes the letters.
-fn trace(anchor: Point, edges: &[i16], letters: &mut [u8]) -> Traced
+fn trace(anchor: Point, edges: &[i16], letters: &mut [u8]) -> Result<u16, Refusal>
     requires { (bad_list edges.now ≡ false) × (bad_cell anchor ≡ false) × (bad_directions edges.now ≡ false) }
     ensures { Answers anchor edges.now letters.old letters.new result }
 {
     let n = count(edges);
     if LONGEST < n {
-        return Traced::Refused(Refusal::NoOutline);
+        return Err(Refusal::NoOutline);
     }
     let mut list = [0u8; LONGEST];
     writer::build(edges, &mut list);
     if !taken_as(anchor, &list[..n], edges) {
-        return Traced::Refused(Refusal::NoOutline);
+        return Err(Refusal::NoOutline);
     }
     if letters.len() < n {
-        return Traced::Refused(Refusal::LetterBuffer);
+        return Err(Refusal::LetterBuffer);
     }
-    copy(&list, n, letters);
-    Traced::Written { letters: n as u16 }
+    letters[..n].copy_from_slice(&list[..n]);
+    Ok(n as u16)
 }
 
 // Writes the border, from W, of the outline that has this anchor and these edges, and returns the count of its letters.
-pub fn border(anchor: Point, edges: &[i16], letters: &mut [u8]) -> Traced
+pub fn border(anchor: Point, edges: &[i16], letters: &mut [u8]) -> Result<u16, Refusal>
     ensures answer { result ≡ traced_of anchor edges.now (length letters.old) }
     ensures letters { letters.new ≡ letters_after anchor edges.now letters.old }
     ensures outline { BorderNamed anchor edges.now (traced_fields result) letters.old letters.new }
 {
     if bad_list(edges) {
-        return Traced::Refused(Refusal::EdgeList { edges: 0 });
+        return Err(Refusal::EdgeList { edges: 0 });
     }
     if bad_cell(anchor) {
-        return Traced::Refused(Refusal::Cell);
+        return Err(Refusal::Cell);
     }
     if bad_directions(edges) {
-        return Traced::Refused(Refusal::Directions);
+        return Err(Refusal::Directions);
     }
     trace(anchor, edges, letters)
 }

@@ -7,8 +7,10 @@ ghost use Rattle.border.specs.parts.Rest.{firsts, letters as letters_of, step_le
 ghost use Rattle.border.specs.parts.Wrote.{Wrote};
 
 use crate::direction;
+use pieces::pair_at;
 
 // (rem + rise) mod (run + rise), without overflow.
+#[tactic(auto, using(crate::proofs::Remainders::nexts))]
 fn next(rem: usize, run: usize, rise: usize) -> usize
     requires { (rem < run + rise) × (run + rise < 2 ^ 64) }
     ensures { result ≡ (rem + rise) % (run + rise) }
@@ -21,16 +23,13 @@ fn write_edge(letters: &mut [u8], at: usize, k: usize, run: usize, rise: usize) 
     requires { (at + (run + rise) ≤ length letters.old) × (0 < rise) }
     ensures { (result ≡ at + (run + rise)) × Wrote letters.old at (letters_of k run rise) letters.new }
 {
-    let earlier = direction::earlier(k);
-    let later = direction::later(k);
+    let pair = pair_at(k);
     let end = run + rise;
     let mut rem = 0;
-    let mut i = 0;
-    while i < end {
-        let letter = if rem < run { earlier } else { later };
+    for i in 0..end {
+        let letter = if rem < run { pair.earlier } else { pair.later };
         letters[at + i] = letter;
         rem = next(rem, run, rise);
-        i += 1;
     }
     at + end
 }
@@ -40,14 +39,10 @@ fn begin_pieces(letters: &mut [u8], at: usize, from: usize, to: usize) -> usize
     requires { (from ≤ to) × (at + (to - from) ≤ length letters.old) }
     ensures { (result ≡ at + (to - from)) × Wrote letters.old at (firsts from (to - from)) letters.new }
 {
-    let mut i = at;
-    let mut k = from;
-    while k < to {
-        k += 1;
-        letters[i] = direction::later(k);
-        i += 1;
+    for k in from..to {
+        letters[at + (k - from)] = pair_at(k + 1).later;
     }
-    i
+    at + (to - from)
 }
 
 // Where the next letter goes, and the piece begun last.
@@ -78,14 +73,11 @@ pub(crate) fn build(edges: &[i16], letters: &mut [u8])
     requires { Ordered 0 (pairs edges.now) × (4 + step_count (pairs edges.now) ≤ length letters.old) }
     ensures { take (4 + step_count (pairs edges.now)) letters.new ≡ letters_from edges.now }
 {
-    letters[0] = direction::later(0);
+    letters[0] = pair_at(0).later;
     let mut writer = Writer { at: 1, piece: 0 };
-    let mut i = 0;
-    while i + 1 < edges.len() {
-        let dx = edges[i];
-        let dy = edges[i + 1];
+    let (list, _) = edges.as_chunks::<2>();
+    for &[dx, dy] in list {
         writer = step(letters, writer, dx, dy);
-        i += 2;
     }
     begin_pieces(letters, writer.at, writer.piece, 3);
 }

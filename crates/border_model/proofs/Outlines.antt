@@ -1,5 +1,6 @@
 -- Some outline is taken with this anchor and these edges exactly if the letters of the edges
 -- pass the code's test, because the border of every such outline is those letters.
+use Rattle.std.specs.Prelude.{Result, Ok, Err}
 use Prim.Native.Nat.{ℕ, ◌*◌, ◌≤◌}
 use native.Mathlib.Omega.{arith}
 use mathlib.Core.Path.{◌≡◌, sym, ap, ◌∙◌}
@@ -11,8 +12,10 @@ use lib.IntN.{ℤ}
 use Rattle.base.specs.Same.{sameℤs}
 use Rattle.base.proofs.Same.{same-ℤs-iff}
 use Rattle.chart.specs.declared.Point.{Point}
-use Rattle.chart.specs.declared.Verdict.{Verdict}
-use Rattle.chart.specs.declared.Verdict.TheVariants.{Taken, Refused}
+use Rattle.chart.specs.declared.Refusal.{Refusal}
+use Rattle.chart.specs.declared.Taken.{Taken}
+use Rattle.chart.specs.Taken.{taken_with}
+use Rattle.chart.proofs.TakenLaws.{same-anchor}
 use Rattle.chart.specs.Outline.{Outline, outline}
 use Rattle.lattice.proofs.WalkLaws.{same_point-true, same-point-self}
 use Rattle.convexity.specs.Clockwise.{border}
@@ -37,7 +40,7 @@ pub has-taken : {o : Outline} {a : Point} {es : List ℤ} → HasEdges o a es �
 has-taken {o} h =
     record {
       edges_counted = edge_count (border o);
-      taken = verdict-taken o h.reaches h.smooth ∙ ap (Taken (edge_count (border o))) h.anchor;
+      taken = verdict-taken o h.reaches h.smooth ∙ ap (taken_with (edge_count (border o))) h.anchor;
       edged = h.edged;
     }
 
@@ -49,7 +52,7 @@ taken-size {o} {a} t =
 -- Tested with a long enough buffer it gives the anchor and the edges again
 pub record Again (o : Outline) (a : Point) (es buffer : List ℤ) : Type 0 where
   pub count : ℕ
-  pub verdict : test_of o (length buffer) ≡ Taken count a
+  pub verdict : test_of o (length buffer) ≡ taken_with count a
   pub counted : length es ≡ 2 * count
   pub list : edges_after o buffer ≡ es ++ drop (length es) buffer
 
@@ -62,21 +65,15 @@ tested-again {o} {a} {es} t buffer room =
 
 -- ---- the test
 
-taken_at-iff : (v : Verdict) (a : Point) → (taken_at v a ≡ true) ↔ ((n : ℕ) × (v ≡ Taken n a))
+taken_at-iff : (v : Result Taken Refusal) (a : Point) → (taken_at v a ≡ true) ↔ ((n : ℕ) × (v ≡ taken_with n a))
 unfolding taken_at
-taken_at-iff (Taken n b) a = (λ e. (n, ap (Taken n) (same_point-true b a e)), λ h. same-point-self b a (same-anchor h.1))
+taken_at-iff (Ok t) a =
+    (λ e. (t.edges, ap (taken_with t.edges) (same_point-true t.anchor a e)), λ h. same-point-self t.anchor a (same-anchor h.1))
+taken_at-iff (Err f) a = (λ e. absurd (false≢true e), λ h. absurd (false≢true (ap is_taken h.1)))
   where
-    anchor_of : Verdict → Point
-    anchor_of (Taken m c) = c
-    anchor_of (Refused f) = a
-
-    same-anchor : {m : ℕ} → Taken n b ≡ Taken m a → b ≡ a
-    same-anchor e = ap anchor_of e
-taken_at-iff (Refused f) a = (λ e. absurd (false≢true e), λ h. absurd (false≢true (ap is_taken h.1)))
-  where
-    is_taken : Verdict → Bool
-    is_taken (Taken m c) = true
-    is_taken (Refused g) = false
+    is_taken : Result Taken Refusal → Bool
+    is_taken (Ok t) = true
+    is_taken (Err g) = false
 
 pub taken_as-iff : (o : Outline) (a : Point) (es : List ℤ) → (taken_as o a es ≡ true) ↔ TakenAs o a es
 unfolding taken_as

@@ -1,5 +1,6 @@
 -- The edges of a taken outline give its own border: its anchor and edges meet none of 10, 11, 16 and 17, and their letters are its border.
 -- So 18 depends on the outline's own length, which is at most 612.
+use Rattle.std.specs.Prelude.{Result, Ok, Err}
 use Prim.Native.Nat.{ℕ, ◌*◌, ◌≤◌, ◌<◌}
 use native.Mathlib.Decide.{dec_lt}
 use native.Mathlib.Omega.{arith}
@@ -14,8 +15,8 @@ use Rattle.chart.specs.declared.Point.{Point}
 use Rattle.chart.specs.Outline.{Outline}
 use Rattle.chart.specs.declared.Fields.{Fields}
 use Rattle.chart.specs.declared.Refusal.TheVariants.{LetterBuffer}
-use Rattle.chart.specs.declared.Verdict.{Verdict}
-use Rattle.chart.specs.declared.Verdict.TheVariants.{Taken, Refused as Stopped}
+use Rattle.chart.specs.declared.Refusal.{Refusal}
+use Rattle.chart.specs.declared.Taken.{Taken}
 use Rattle.chart.specs.Fields.{verdict_fields}
 use Rattle.chart.proofs.RefusalLaws.{refusal-number}
 use Rattle.lattice.specs.Chart.{size}
@@ -33,7 +34,6 @@ use Rattle.polygon.proofs.Taken.{taken-listed, taken-anchored}
 use Rattle.verdict.specs.Verdict.{test_of, test_fields, edges_after}
 use Rattle.verdict.specs.Named.{cell_of}
 use Rattle.verdict.proofs.VerdictLaws.{roomy, edges-first}
-use Rattle.border_model.specs.declared.Traced.TheVariants.{Written, Refused}
 use Rattle.border_model.specs.Outlined.{TakenAs}
 use Rattle.border_model.specs.Traced.{traced_of, traced_fields, letters_after}
 use Rattle.border_model.proofs.Outlines.{taken-has, outlined-iff}
@@ -64,22 +64,22 @@ module _ {o : Outline} {a : Point} {es : List ℤ} (t : TakenAs o a es) where
   -- The reply has its count of letters, and the buffer has its border first
   pub own-letters :
       (buffer : List ℕ) → size o ≤ length buffer
-      → (traced_of a es (length buffer) ≡ Written (size o)) × (letters_after a es buffer ≡ (border o).letters ++ drop (size o) buffer)
+      → (traced_of a es (length buffer) ≡ Ok (size o)) × (letters_after a es buffer ≡ (border o).letters ++ drop (size o) buffer)
   own-letters buffer room =
       let w =
       traced-written a es buffer (taken-listed (taken-has t)) (taken-anchored (taken-has t)) turned ((outlined-iff a es).1 (o, t))
       (omega (arith, letters-size)) in
-      (sym w.answer ∙ ap Written letters-size, sym w.letters ∙ rw (letters-are, ← letters-size, letters-are) refl)
+      (sym w.answer ∙ ap Ok letters-size, sym w.letters ∙ rw (letters-are, ← letters-size, letters-are) refl)
 
   -- A buffer of 612 letters or more always suffices
   pub own-suffices :
       (buffer : List ℕ) → longest ≤ length buffer
-      → (traced_of a es (length buffer) ≡ Written (size o)) × (letters_after a es buffer ≡ (border o).letters ++ drop (size o) buffer)
+      → (traced_of a es (length buffer) ≡ Ok (size o)) × (letters_after a es buffer ≡ (border o).letters ++ drop (size o) buffer)
   own-suffices buffer room = own-letters buffer (omega (arith, size-bound))
 
   -- With a buffer that is too short the reply is 18, and the buffer is unchanged
   pub own-short : (buffer : List ℕ) → length buffer < size o
-      → (traced_of a es (length buffer) ≡ Refused LetterBuffer) × (letters_after a es buffer ≡ buffer)
+      → (traced_of a es (length buffer) ≡ Err LetterBuffer) × (letters_after a es buffer ≡ buffer)
   own-short buffer short =
       let w =
       traced-short a es buffer (taken-listed (taken-has t)) (taken-anchored (taken-has t)) turned ((outlined-iff a es).1 (o, t))
@@ -110,13 +110,17 @@ module _ (o : Outline) (buffer : List ℤ) (done : (test_fields o (length buffer
   unfolding test_fields
   tested-taken-as = go (test_of o (length buffer)) refl done
     where
-      go : (v : Verdict) → test_of o (length buffer) ≡ v → (verdict_fields v).number ≡ 0
+      go : (v : Result Taken Refusal) → test_of o (length buffer) ≡ v → (verdict_fields v).number ≡ 0
           → TakenAs o (cell_of (verdict_fields v)) (take (2 * (verdict_fields v).place) (edges_after o buffer))
-      go (Stopped f) e n = absurd (omega (arith, n, refusal-number f))
-      go (Taken n a) e z =
-          record { edges_counted = n; taken = (roomy o (length buffer) n a e).verdict; edged = sym (edges-first o buffer n a e) }
+      go (Err f) e n = absurd (omega (arith, n, refusal-number f))
+      go (Ok t) e z =
+          record {
+            edges_counted = t.edges;
+            taken = (roomy o (length buffer) t.edges t.anchor e).verdict;
+            edged = sym (edges-first o buffer t.edges t.anchor e);
+          }
 
   pub test-border : (letters : List ℕ) → size o ≤ length letters
-      → (traced_of (cell_of reply) first (length letters) ≡ Written (size o))
+      → (traced_of (cell_of reply) first (length letters) ≡ Ok (size o))
       × (letters_after (cell_of reply) first letters ≡ (border o).letters ++ drop (size o) letters)
   test-border letters room = own-letters tested-taken-as letters room

@@ -1,11 +1,11 @@
 -- What the reply of a border call says about all outlines (contract 6.3).
-use Rattle.std.specs.Prelude.{◌≡◌, ◌↔◌, List, length, take, ℤ, ℕ, ◌≤◌, ◌<◌}
+use Rattle.std.specs.Prelude.{◌≡◌, ◌↔◌, List, length, take, ℤ, ℕ, ◌≤◌, ◌<◌, Result}
 use Rattle.chart.specs.Refusals.{no_outline, letter_buffer}
 use Rattle.chart.specs.declared.Point.{Point}
+use Rattle.chart.specs.declared.Refusal.{Refusal}
 use Rattle.chart.specs.declared.Fields.{Fields}
 use Rattle.chart.specs.Outline.{Outline, outline}
 use Rattle.convexity.specs.Clockwise.{border}
-use Rattle.border_model.specs.declared.Traced.{Traced}
 use Rattle.border_model.specs.Traced.{traced_of, traced_fields, letters_after}
 use Rattle.border_model.specs.Outlined.{TakenAs, HasOutline}
 
@@ -28,7 +28,7 @@ pub record BorderNamed (a : Point) (es : List ℤ) (f : Fields) (before after : 
   pub unchanged : (f.number ≡ 0 → ⊥) → after ≡ before
 
 -- All that a border call promises of its reply t and of the buffer
-pub record Answers (a : Point) (es : List ℤ) (before after : List ℕ) (t : Traced) : Type 0 where
+pub record Answers (a : Point) (es : List ℤ) (before after : List ℕ) (t : Result ℕ Refusal) : Type 0 where
   pub answer : t ≡ traced_of a es (length before)
   pub letters : after ≡ letters_after a es before
   pub named : BorderNamed a es (traced_fields t) before after

@@ -2,15 +2,15 @@
 ghost use Rattle.std.specs.Prelude.{◌≡◌};
 ghost use Rattle.border_model.specs.Traced.{traced_fields};
 
-use crate::Traced;
-use chart::{Fields, reply};
+use chart::{Fields, Refusal, reply};
 
+// The count of the letters written, or 10, 11, 16, 17 or 18.
 #[tactic(auto, unfolding(crate::specs::Traced::traced_fields))]
-pub fn of_traced(t: Traced) -> Fields
+pub fn of_traced(t: Result<u16, Refusal>) -> Fields
     ensures { result ≡ traced_fields t }
 {
     match t {
-        Traced::Written { letters } => reply::placed(0, letters),
-        Traced::Refused(why) => reply::of_refusal(why),
+        Ok(letters) => reply::placed(0, letters),
+        Err(why) => Fields::from(why),
     }
 }

@@ -1,61 +1,12 @@
 -- The letters round rows, part by part: each iteration writes one more row, and the parts follow one another.
 use Prim.Native.Nat.{ℕ, zero, suc, pred, ◌+◌, ◌-◌, ◌≤◌, ◌<◌}
-use native.Mathlib.Decide.{dec_le}
 use native.Mathlib.Omega.{arith}
 use mathlib.Core.Path.{◌≡◌, refl, sym, ap, ◌∙◌}
 use mathlib.Core.List.{List, [], ◌∷◌, ◌++◌, append_assoc, append-nil}
-use lib.ListN.{length, length-append, replicate, replicate-append-replicate}
+use lib.ListN.{length, length-append}
 use Rattle.completion.specs.RowsOutline.{across}
 use Rattle.completion.proofs.Segments.{length-across}
 use Rattle.completion.specs.parts.Written.{ascent, descent, to_row, written_from}
-
--- ---- across
-
--- Column x is between columns a and b
-pub data Between (a b x : ℕ) : Type 0 where
-  onward : a ≤ x → x ≤ b → Between a b x
-  backward : b ≤ x → x ≤ a → Between a b x
-
-pub between_start : (a b : ℕ) → Between a b a
-between_start a b = elim (dec_le a b) [ yes h ↦ onward (omega arith) h | no h ↦ backward (omega arith) (omega arith) ]
-
-pub across-none : (a : ℕ) → across a a ≡ []
-unfolding across
-across-none a = let e : a - a ≡ 0 = omega arith in rw e refl
-
-replicate_next : (n a : ℕ) → replicate (n + 1) a ≡ replicate n a ++ (a ∷ [])
-replicate_next n a = sym (replicate-append-replicate n 1 a)
-
-across-right : (a x : ℕ) → a ≤ x → across a x ≡ replicate (x - a) 0
-unfolding across
-across-right a x h = let e : a - x ≡ 0 = omega arith in rw (e, append-nil) refl
-
-across-left : (a x : ℕ) → x ≤ a → across a x ≡ replicate (a - x) 2
-unfolding across
-across-left a x h = let e : x - a ≡ 0 = omega arith in rw e refl
-
--- One more column
-pub onward-more : (a b x : ℕ) → Between a b x → x < b → (across a (x + 1) ≡ across a x ++ (0 ∷ [])) × Between a b (x + 1)
-onward-more a b x (onward h k) l =
-    let e : x + 1 - a ≡ (x - a) + 1 = omega arith in (
-      across-right a (x + 1) (omega arith) ∙ rw e (replicate_next (x - a) 0)
-          ∙ ap (λ (w : List ℕ). w ++ (0 ∷ [])) (sym (across-right a x h)),
-      onward (omega arith) (omega arith),
-    )
-onward-more a b x (backward h k) l = absurd (omega arith)
-
-pub backward-more : (a b x : ℕ) → Between a b x → b < x → (across a (x - 1) ≡ across a x ++ (2 ∷ [])) × Between a b (x - 1)
-backward-more a b x (onward h k) l = absurd (omega arith)
-backward-more a b x (backward h k) l =
-    let e : a - (x - 1) ≡ (a - x) + 1 = omega arith in (
-      across-left a (x - 1) (omega arith) ∙ rw e (replicate_next (a - x) 2) ∙ ap (λ (w : List ℕ). w ++ (2 ∷ [])) (sym (across-left a x k)),
-      backward (omega arith) (omega arith),
-    )
-
--- How far there is still to go
-pub across-fits : (a b x : ℕ) → Between a b x → length (across a x) + ((b - x) + (x - b)) ≡ length (across a b)
-across-fits a b x (onward h k) = omega (arith, length-across a x, length-across a b)
-across-fits a b x (backward h k) = omega (arith, length-across a x, length-across a b)
 
 -- ---- up
 

@@ -1,11 +1,11 @@
 -- Letters stored one after another: the earlier ones stay, and what stands behind is not changed.
-use Prim.Native.Nat.{ℕ, suc, ◌+◌, ◌<◌}
+use Prim.Native.Nat.{ℕ, suc, ◌+◌, ◌≤◌, ◌<◌}
 use native.Mathlib.Nat.{add-zero, zero-add}
 use native.Mathlib.Omega.{arith}
 use mathlib.Core.Path.{◌≡◌, refl, sym, ap, ◌∙◌, subst}
 use mathlib.Core.List.{List, [], ◌∷◌, ◌++◌, append_assoc, append-nil}
-use lib.ListN.{length, take, drop, set, length-set, length-append, take-append-drop}
-use lib.Seq.{take-suc-set, drop-set-lt, drop-drop}
+use lib.ListN.{length, take, drop, set, length-set, length-append, length-drop, take-append-drop}
+use lib.Seq.{take_at, drop_at, length-take-le, take-suc-set, drop-set-lt, drop-drop}
 use Rattle.border_of_rows.specs.parts.Wrote.{Wrote}
 
 pub wrote_none : (before : List ℕ) (at : ℕ) → Wrote before at [] before
@@ -46,6 +46,30 @@ wrote-both {before} {middle} {after} {u} {v} {at} h i e k =
           (k.written ∙ ap (λ (l : List ℕ). l ++ v) (ap (λ (j : ℕ). take j middle) e ∙ h.written) ∙ append_assoc (take at before) u v);
       kept = rw n (k.kept ∙ further middle before i (length v) (rw e h.kept));
     }
+
+-- Letters put in the place of as many
+pub wrote-put :
+    {before w put : List ℕ} {at k : ℕ} → put ≡ w → k ≡ length w → at + length w ≤ length before
+    → Wrote before at w (take at before ++ (put ++ drop k (drop at before)))
+wrote-put {before} {w} {put} {at} {k} e d h =
+    let rest = drop (length w) (drop at before) in
+    let front : length (take at before ++ w) ≡ at + length w =
+    omega (arith, length-append (take at before) w, length-take-le at before (omega arith)) in
+    let whole : take at before ++ (w ++ rest) ≡ (take at before ++ w) ++ rest = sym (append_assoc (take at before) w rest) in
+    rw (e, d)
+    (record {
+      sized =
+          omega (
+            arith,
+            ap length whole,
+            length-append (take at before ++ w) rest,
+            front,
+            length-drop (length w) (drop at before),
+            length-drop at before,
+          );
+      written = ap (take (at + length w)) whole ∙ take_at (take at before ++ w) rest (at + length w) front;
+      kept = ap (drop (at + length w)) whole ∙ drop_at (take at before ++ w) rest (at + length w) front ∙ drop-drop (length w) at before;
+    })
 
 -- Equal letters
 pub wrote-same : {before w v after : List ℕ} {at : ℕ} → w ≡ v → Wrote before at w after → Wrote before at v after

@@ -10,15 +10,15 @@ ghost use Rattle.border_of_rows.specs.parts.Wrote.{Wrote};
 
 use chart::CORNERS;
 
+// A side of the block is a list of all rows' ends, and `y` to `e` are the rows to go along, the lower first, as in a range: a struct of the
+// three would be made anew for each of the six calls, and is no plainer. Each side is found, counted and gone along without the other, so
+// the two are two lists. A loop counts rows, as it reads each together with the row above it.
+
 // How many letters lead from column `a` to column `b`.
 fn apart(a: u16, b: u16) -> usize
     ensures { (result ≡ length (across_of a b)) × (result < 65536) }
 {
-    if a < b {
-        (b - a) as usize
-    } else {
-        (a - b) as usize
-    }
+    usize::from(a.abs_diff(b))
 }
 
 // How many letters lead along the ends of rows from row `y` up to row `e`, or down again.
@@ -27,10 +27,8 @@ fn steps(ends: &[u16; CORNERS], y: usize, e: usize) -> usize
     ensures { (result ≡ length (to_row (rows ends.now) y (e - y))) × (result ≤ 65536 * (e - y)) }
 {
     let mut n = 0;
-    let mut i = y;
-    while i < e {
+    for i in y..e {
         n += 1 + apart(ends[i], ends[i + 1]);
-        i += 1;
     }
     n
 }
@@ -53,19 +51,9 @@ fn across(out: &mut [u8], at: usize, a: u16, b: u16) -> usize
     requires { at + length (across_of a b) ≤ length out.old }
     ensures { (result ≡ at + length (across_of a b)) × Wrote out.old at (across_of a b) out.new }
 {
-    let mut k = at;
-    let mut x = a;
-    while x != b {
-        if x < b {
-            out[k] = 0;
-            x += 1;
-        } else {
-            out[k] = 2;
-            x -= 1;
-        }
-        k += 1;
-    }
-    k
+    let end = at + apart(a, b);
+    out[at..end].fill(if a < b { 0 } else { 2 });
+    end
 }
 
 // Writes the letters up the left ends from row `y` to row `e`.
@@ -75,11 +63,9 @@ fn rise(lo: &[u16; CORNERS], y: usize, e: usize, out: &mut [u8], at: usize) -> u
         × Wrote out.old at (to_row (rows lo.now) y (e - y)) out.new }
 {
     let mut k = at;
-    let mut i = y;
-    while i < e {
+    for i in y..e {
         out[k] = 1;
         k = across(out, k + 1, lo[i], lo[i + 1]);
-        i += 1;
     }
     k
 }
@@ -92,12 +78,10 @@ fn fall(hi: &[u16; CORNERS], y: usize, e: usize, out: &mut [u8], at: usize) -> u
 {
     out[at] = 3;
     let mut k = at + 1;
-    let mut i = e;
-    while y < i {
-        k = across(out, k, hi[i], hi[i - 1]);
+    for i in (y..e).rev() {
+        k = across(out, k, hi[i + 1], hi[i]);
         out[k] = 3;
         k += 1;
-        i -= 1;
     }
     k
 }

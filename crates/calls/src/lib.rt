@@ -1,6 +1,9 @@
 // The calls on a holder, and their answers.
 #![tactic(auto)]
 
+ghost use Rattle.std.specs.Prelude.{◌≡◌, ◌≤◌, ◌<◌, MatchResult};
+ghost use Rattle.calls.specs.Calls.{parties, places};
+
 use chart::{Point, Refusal};
 
 pub mod written;
@@ -9,6 +12,33 @@ pub mod written;
 pub const PARTIES: usize = 2;
 
 pub const PLACES: usize = 4;
+
+// A party's index and a place's are two functions: they differ in bound and refusal, and one for both would take these as arguments.
+// The index of a party, or 19.
+pub fn party_index(party: u8) -> Result<usize, Refusal>
+    ensures { MatchResult result (λ p. (p ≡ party) × (party < parties))
+        (λ why. (why ≡ Refusal.Party) × (parties ≤ party)) }
+{
+    let p = usize::from(party);
+    if p < PARTIES {
+        Ok(p)
+    } else {
+        Err(Refusal::Party)
+    }
+}
+
+// The index of a place, or 20.
+pub fn place_index(place: u8) -> Result<usize, Refusal>
+    ensures { MatchResult result (λ k. (k ≡ place) × (place < places))
+        (λ why. (why ≡ Refusal.Place) × (places ≤ place)) }
+{
+    let k = usize::from(place);
+    if k < PLACES {
+        Ok(k)
+    } else {
+        Err(Refusal::Place)
+    }
+}
 
 // A call: its party and its action.
 #[derive(Clone, Copy)]
@@ -54,13 +84,11 @@ pub enum Piece {
     Move(f32, f32),
     Line(f32, f32),
     Close,
-    // The position is past the last path command.
-    None,
 }
 
-// The answer of a call.
+// What a call answers. Its reply is this or a refusal.
 #[derive(Clone, Copy)]
-pub enum Reply {
+pub enum Answer {
     // Begin, add, drop or clear was done.
     Done,
     Inside,
@@ -71,10 +99,9 @@ pub enum Reply {
     Columns { first: u16, last: u16 },
     // Row: no cell of the row is enclosed.
     None,
-    // Piece: the path command and, for a move or a line, the cell whose centre is its point.
-    Drawn { piece: Piece, cell: Point },
+    // Piece: the path command, or none past the last one, and, for a move or a line, the cell whose centre is its point.
+    Drawn { piece: Option<Piece>, cell: Point },
     // Close: the draft is taken. The count of edges, and the anchor.
     Taken { edges: u16, anchor: Point },
     Same { edges: u16, anchor: Point },
-    Refused(Refusal),
 }

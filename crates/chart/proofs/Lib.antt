@@ -1,4 +1,5 @@
--- The numbers of the refusals; a buffer after a reply; tables of replies.
+-- The numbers of the refusals; a buffer after a reply; verdicts that take; tables of replies.
 pub mod RefusalLaws
 pub mod ReplyLaws
+pub mod TakenLaws
 pub mod Tables

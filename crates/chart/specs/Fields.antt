@@ -1,5 +1,5 @@
 -- Replies in seven fields: number, word and the rest, for every answer of a test, a loose query and a comparison (contract 4 and 5).
-use Rattle.std.specs.Prelude.{ℕ, cond, List, [], ◌∷◌, ◌++◌, length, drop, get_or, leb}
+use Rattle.std.specs.Prelude.{ℕ, cond, List, [], ◌∷◌, ◌++◌, length, drop, get_or, leb, Result, Ok, Err}
 use Rattle.chart.specs.Refusals as refusals
 use Rattle.chart.specs.declared.Point.{Point}
 use Rattle.chart.specs.declared.Fields.{Fields}
@@ -7,14 +7,14 @@ use Rattle.chart.specs.declared.Refusal.{Refusal}
 use Rattle.chart.specs.declared.Refusal.TheVariants.{Length, Start, Letter, OffChart, NotClosed, Touches, BackStep, Dent, EdgeList}
 use Rattle.chart.specs.declared.Refusal.TheVariants.{Cell, NothingAtWork, NoDraft, DraftOpen, DraftFull, Directions, NoOutline}
 use Rattle.chart.specs.declared.Refusal.TheVariants.{LetterBuffer, Party, Place, Section, Layer, Image, Damaged, Frame}
-use Rattle.chart.specs.declared.Verdict.{Verdict}
-use Rattle.chart.specs.declared.Verdict.TheVariants.{Taken, Refused}
+use Rattle.chart.specs.declared.SectionKind.{SectionKind}
+use Rattle.chart.specs.declared.SectionKind.TheVariants.{Column, Row}
+use Rattle.chart.specs.declared.Taken.{Taken}
 use Rattle.chart.specs.declared.Position.{Position}
-use Rattle.chart.specs.declared.Position.TheVariants.{Inside, Outside, Refused as Rejected}
+use Rattle.chart.specs.declared.Position.TheVariants.{Inside, Outside}
 use Rattle.chart.specs.declared.Nesting.{Nesting}
 use Rattle.chart.specs.declared.Nesting.TheVariants.{Equal, FirstWithin, SecondWithin, Apart, Crossing}
-use Rattle.chart.specs.declared.Comparison.{Comparison}
-use Rattle.chart.specs.declared.Comparison.TheVariants.{Found, Refused as TurnedBack}
+use Rattle.chart.specs.declared.RefusedList.{RefusedList}
 
 -- The words of a reply (contract 4.3): of a test, a query and a comparison, and of a holder's and a pile's calls
 abbrev pub no_word : ℕ
@@ -85,6 +85,11 @@ worded v = record { number = 0; word = v; place = 0; piece = 0; length = 0; col 
 abbrev pub accepted : ℕ → ℕ → Point → Fields
 accepted v edges a = record { number = 0; word = v; place = edges; piece = 0; length = 0; col = a.col; row = a.row }
 
+-- The kind of a dented section: 0 is a column, and 1 a row (contract 5.2)
+abbrev pub kind_number : SectionKind → ℕ
+kind_number Column = 0
+kind_number Row = 1
+
 -- The table of the refusals: the number and the fields of each (contract 5.2)
 abbrev pub refusal_fields : Refusal → Fields
 refusal_fields Length = numbered refusals.list_length
@@ -107,20 +112,20 @@ refusal_fields NoOutline = numbered refusals.no_outline
 refusal_fields LetterBuffer = numbered refusals.letter_buffer
 refusal_fields Party = numbered refusals.party
 refusal_fields Place = numbered refusals.place
-refusal_fields (Section k p) = pieced refusals.section k p
+refusal_fields (Section k p) = pieced refusals.section (kind_number k) p
 refusal_fields Layer = numbered refusals.layer
 refusal_fields Image = numbered refusals.image
 refusal_fields Damaged = numbered refusals.damaged
 refusal_fields Frame = numbered refusals.frame
 
-abbrev pub verdict_fields : Verdict → Fields
-verdict_fields (Taken e a) = accepted no_word e a
-verdict_fields (Refused f) = refusal_fields f
+abbrev pub verdict_fields : Result Taken Refusal → Fields
+verdict_fields (Ok t) = accepted no_word t.edges t.anchor
+verdict_fields (Err f) = refusal_fields f
 
-abbrev pub position_fields : Position → Fields
-position_fields Inside = worded inside
-position_fields Outside = worded outside
-position_fields (Rejected f) = refusal_fields f
+abbrev pub position_fields : Result Position Refusal → Fields
+position_fields (Ok Inside) = worded inside
+position_fields (Ok Outside) = worded outside
+position_fields (Err f) = refusal_fields f
 
 -- A word, and which list a comparison returns: 1, 2, or 0 for neither (contract 6.4)
 abbrev pub handing : ℕ → ℕ → Fields
@@ -133,9 +138,9 @@ nesting_fields SecondWithin = handing second_within 2
 nesting_fields Apart = handing no_common 0
 nesting_fields Crossing = handing crossing 0
 
-abbrev pub comparison_fields : Comparison → Fields
-comparison_fields (Found v) = nesting_fields v
-comparison_fields (TurnedBack list f) = placed (refusal_fields f).number list
+abbrev pub comparison_fields : Result Nesting RefusedList → Fields
+comparison_fields (Ok v) = nesting_fields v
+comparison_fields (Err r) = placed (refusal_fields r.refusal).number r.list
 
 -- How many numbers a reply has, and the reply as these numbers
 abbrev pub reply_width : ℕ

@@ -2,5 +2,6 @@
 pub mod Limits
 pub mod Outline
 pub mod Refusals
+pub mod Taken
 pub mod Fields
 pub mod Same

@@ -1,12 +1,11 @@
 // The chart, its limits, and the answers of the calls.
 #![tactic(auto)]
 
-pub mod refusals;
 pub mod reply;
 
 // A corner of the chart, or the cell whose lower left corner it is.
 #[repr(C)]
-#[derive(Clone, Copy)]
+#[derive(Clone, Copy, PartialEq, Eq)]
 pub struct Point {
     pub col: u16,
     pub row: u16,
@@ -29,9 +28,16 @@ pub const MOST_NUMBERS: usize = 200;
 // The longest list of edges that a loose query accepts, in numbers.
 pub const LONGEST_LIST: usize = 2032;
 
+// A section of a pile lies at a column or at a row.
+#[derive(Clone, Copy, PartialEq, Eq)]
+pub enum SectionKind {
+    Column,
+    Row,
+}
+
 // Why a call is refused, with the fields that the refusal names (contract 5). The names are those of the C header. There is no 7, and 23
 // to 25 are faults of a file.
-#[derive(Clone, Copy)]
+#[derive(Clone, Copy, PartialEq, Eq)]
 pub enum Refusal {
     // 1. Fewer than 4 or more than 612 letters.
     Length,
@@ -88,9 +94,9 @@ pub enum Refusal {
     Party,
     // 20. The place is above 3.
     Place,
-    // 21. The first dented section of a pile: kind 0 is a column and 1 a row, `at` is its number.
+    // 21. The first dented section of a pile: `at` is its column or its row.
     Section {
-        kind: u16,
+        kind: SectionKind,
         at: u16,
     },
     // 22. The layer is above 15.
@@ -103,24 +109,22 @@ pub enum Refusal {
     Frame,
 }
 
-// The verdict on an outline.
-#[derive(Clone, Copy)]
-pub enum Verdict {
-    // The count of edges, and the anchor.
-    Taken { edges: u16, anchor: Point },
-    Refused(Refusal),
+// What a taken outline is told by: the count of its edges, and the anchor. A verdict on an outline is this or a refusal.
+#[derive(Clone, Copy, PartialEq, Eq)]
+pub struct Taken {
+    pub edges: u16,
+    pub anchor: Point,
 }
 
-// The answer of a loose query.
+// Where a loose query finds a cell.
 #[derive(Clone, Copy)]
 pub enum Position {
     Inside,
     Outside,
-    Refused(Refusal),
 }
 
 // How the cells of two hulls lie (contract 6.4).
-#[derive(Clone, Copy)]
+#[derive(Clone, Copy, PartialEq, Eq)]
 pub enum Nesting {
     Equal,
     FirstWithin,
@@ -129,11 +133,11 @@ pub enum Nesting {
     Crossing,
 }
 
-// The answer of a comparison. A refusal names its list, 1 or 2.
+// The refusal of one of the two lists of a comparison. `list` is 1 or 2.
 #[derive(Clone, Copy)]
-pub enum Comparison {
-    Found(Nesting),
-    Refused { list: u16, refusal: Refusal },
+pub struct RefusedList {
+    pub list: u16,
+    pub refusal: Refusal,
 }
 
 // A reply in seven fields (contract 4.1). Words are those of contract 4.3; 0 is no word.

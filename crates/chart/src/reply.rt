@@ -2,10 +2,10 @@
 ghost use Rattle.std.specs.Prelude.{◌≡◌, length, leb};
 ghost use Rattle.chart.specs.Fields.{numbered as numbered_of, placed as placed_of, worded as worded_of, accepted as accepted_of};
 ghost use Rattle.chart.specs.Fields.{pieced as pieced_of, refusal_fields, verdict_fields, position_fields, handing as handing_of};
-ghost use Rattle.chart.specs.Fields.{nesting_fields};
+ghost use Rattle.chart.specs.Fields.{nesting_fields, kind_number};
 ghost use Rattle.chart.specs.Fields.{comparison_fields, reply_width, reply_after, numbers_of};
 
-use crate::{Comparison, Fields, Nesting, Point, Position, Refusal, Verdict, refusals};
+use crate::{Fields, Nesting, Point, Position, Refusal, RefusedList, SectionKind, Taken};
 
 // The count of numbers in a reply.
 pub const NUMBERS: usize = 7;
@@ -104,67 +104,85 @@ pub fn accepted(word: u16, edges: u16, anchor: Point) -> Fields
     }
 }
 
-// The table of the refusals: the number and the fields of each (contract 5.2).
-pub fn of_refusal(f: Refusal) -> Fields
-    ensures { result ≡ refusal_fields f }
-{
-    match f {
-        Refusal::Length => numbered(refusals::LENGTH),
-        Refusal::Start => numbered(refusals::START),
-        Refusal::Letter { place } => placed(refusals::LETTER, place),
-        Refusal::OffChart { place } => placed(refusals::OFF_CHART, place),
-        Refusal::NotClosed => numbered(refusals::NOT_CLOSED),
-        Refusal::Touches { place } => placed(refusals::TOUCHES, place),
-        Refusal::BackStep { piece, place } => pieced(refusals::BACK_STEP, piece, place),
-        Refusal::Dent {
-            piece,
-            place,
-            length,
-            cell,
-        } => Fields {
-            number: refusals::DENT,
-            word: NO_WORD,
-            place,
-            piece,
-            length,
-            col: cell.col,
-            row: cell.row,
-        },
-        Refusal::EdgeList { edges } => placed(refusals::EDGE_LIST, edges),
-        Refusal::Cell => numbered(refusals::CELL),
-        Refusal::NothingAtWork => numbered(refusals::NOTHING_AT_WORK),
-        Refusal::NoDraft => numbered(refusals::NO_DRAFT),
-        Refusal::DraftOpen => numbered(refusals::DRAFT_OPEN),
-        Refusal::DraftFull => numbered(refusals::DRAFT_FULL),
-        Refusal::Directions => numbered(refusals::DIRECTIONS),
-        Refusal::NoOutline => numbered(refusals::NO_OUTLINE),
-        Refusal::LetterBuffer => numbered(refusals::LETTER_BUFFER),
-        Refusal::Party => numbered(refusals::PARTY),
-        Refusal::Place => numbered(refusals::PLACE),
-        Refusal::Section { kind, at } => pieced(refusals::SECTION, kind, at),
-        Refusal::Layer => numbered(refusals::LAYER),
-        Refusal::Image => numbered(refusals::IMAGE),
-        Refusal::Damaged => numbered(refusals::DAMAGED),
-        Refusal::Frame => numbered(refusals::FRAME),
+// The kind of a section as a number of a reply (contract 5.2).
+impl From<SectionKind> for u16 {
+    ghost from_gives = { λ kind number. number ≡ kind_number kind };
+
+    fn from(kind: SectionKind) -> u16 {
+        match kind {
+            SectionKind::Column => 0,
+            SectionKind::Row => 1,
+        }
     }
 }
 
-pub fn of_verdict(v: Verdict) -> Fields
-    ensures { result ≡ verdict_fields v }
-{
-    match v {
-        Verdict::Taken { edges, anchor } => accepted(NO_WORD, edges, anchor),
-        Verdict::Refused(f) => of_refusal(f),
+// The table of the refusals: the number and the fields of each (contract 5.2). There is no 7, and 23 to 25 are faults of a file.
+impl From<Refusal> for Fields {
+    ghost from_gives = { λ why fields. fields ≡ refusal_fields why };
+
+    fn from(why: Refusal) -> Fields {
+        match why {
+            Refusal::Length => numbered(1),
+            Refusal::Start => numbered(2),
+            Refusal::Letter { place } => placed(3, place),
+            Refusal::OffChart { place } => placed(4, place),
+            Refusal::NotClosed => numbered(5),
+            Refusal::Touches { place } => placed(6, place),
+            Refusal::BackStep { piece, place } => pieced(8, piece, place),
+            Refusal::Dent {
+                piece,
+                place,
+                length,
+                cell,
+            } => Fields {
+                number: 9,
+                word: NO_WORD,
+                place,
+                piece,
+                length,
+                col: cell.col,
+                row: cell.row,
+            },
+            Refusal::EdgeList { edges } => placed(10, edges),
+            Refusal::Cell => numbered(11),
+            Refusal::NothingAtWork => numbered(12),
+            Refusal::NoDraft => numbered(13),
+            Refusal::DraftOpen => numbered(14),
+            Refusal::DraftFull => numbered(15),
+            Refusal::Directions => numbered(16),
+            Refusal::NoOutline => numbered(17),
+            Refusal::LetterBuffer => numbered(18),
+            Refusal::Party => numbered(19),
+            Refusal::Place => numbered(20),
+            Refusal::Section { kind, at } => pieced(21, u16::from(kind), at),
+            Refusal::Layer => numbered(22),
+            Refusal::Image => numbered(26),
+            Refusal::Damaged => numbered(27),
+            Refusal::Frame => numbered(28),
+        }
     }
 }
 
-pub fn of_position(p: Position) -> Fields
-    ensures { result ≡ position_fields p }
-{
-    match p {
-        Position::Inside => worded(INSIDE),
-        Position::Outside => worded(OUTSIDE),
-        Position::Refused(f) => of_refusal(f),
+impl From<Result<Taken, Refusal>> for Fields {
+    ghost from_gives = { λ verdict fields. fields ≡ verdict_fields verdict };
+
+    fn from(verdict: Result<Taken, Refusal>) -> Fields {
+        match verdict {
+            Ok(taken) => accepted(NO_WORD, taken.edges, taken.anchor),
+            Err(why) => Fields::from(why),
+        }
+    }
+}
+
+impl From<Result<Position, Refusal>> for Fields {
+    ghost from_gives = { λ position fields. fields ≡ position_fields position };
+
+    fn from(position: Result<Position, Refusal>) -> Fields {
+        match position {
+            Ok(Position::Inside) => worded(INSIDE),
+            Ok(Position::Outside) => worded(OUTSIDE),
+            Err(why) => Fields::from(why),
+        }
     }
 }
 
@@ -183,28 +201,43 @@ fn handing(word: u16, whose: u16) -> Fields
     }
 }
 
-pub fn of_nesting(v: Nesting) -> Fields
-    ensures { result ≡ nesting_fields v }
-{
-    match v {
-        Nesting::Equal => handing(EQUAL, 1),
-        Nesting::FirstWithin => handing(FIRST_WITHIN, 1),
-        Nesting::SecondWithin => handing(SECOND_WITHIN, 2),
-        Nesting::Apart => handing(NO_COMMON, 0),
-        Nesting::Crossing => handing(CROSSING, 0),
+impl From<Nesting> for Fields {
+    ghost from_gives = { λ nesting fields. fields ≡ nesting_fields nesting };
+
+    fn from(nesting: Nesting) -> Fields {
+        match nesting {
+            Nesting::Equal => handing(EQUAL, 1),
+            Nesting::FirstWithin => handing(FIRST_WITHIN, 1),
+            Nesting::SecondWithin => handing(SECOND_WITHIN, 2),
+            Nesting::Apart => handing(NO_COMMON, 0),
+            Nesting::Crossing => handing(CROSSING, 0),
+        }
     }
 }
 
-pub fn of_comparison(c: Comparison) -> Fields
-    ensures { result ≡ comparison_fields c }
-{
-    match c {
-        Comparison::Found(v) => of_nesting(v),
-        Comparison::Refused { list, refusal } => placed(of_refusal(refusal).number, list),
+impl From<Result<Nesting, RefusedList>> for Fields {
+    ghost from_gives = { λ comparison fields. fields ≡ comparison_fields comparison };
+
+    fn from(comparison: Result<Nesting, RefusedList>) -> Fields {
+        match comparison {
+            Ok(nesting) => Fields::from(nesting),
+            Err(refused) => placed(Fields::from(refused.refusal).number, refused.list),
+        }
+    }
+}
+
+// A reply as its seven numbers.
+impl From<Fields> for [u16; NUMBERS] {
+    ghost from_gives = { λ fields numbers. numbers ≡ numbers_of fields };
+
+    #[tactic(auto, unfolding(crate::specs::Fields::numbers_of))]
+    fn from(f: Fields) -> [u16; NUMBERS] {
+        [f.number, f.word, f.place, f.piece, f.length, f.col, f.row]
     }
 }
 
 // Writes a reply's seven numbers to the front of a buffer. Returns whether it has room for them.
+#[tactic(auto, unfolding(crate::specs::Fields::reply_after))]
 pub fn write(f: Fields, list: &mut [u16]) -> bool
     ensures room { result ≡ leb reply_width (length list.old) }
     ensures list { list.new ≡ reply_after f list.old }
@@ -212,13 +245,7 @@ pub fn write(f: Fields, list: &mut [u16]) -> bool
     if list.len() < NUMBERS {
         return false;
     }
-    list[0] = f.number;
-    list[1] = f.word;
-    list[2] = f.place;
-    list[3] = f.piece;
-    list[4] = f.length;
-    list[5] = f.col;
-    list[6] = f.row;
+    list[..NUMBERS].copy_from_slice(&<[u16; NUMBERS]>::from(f));
     true
 }
 
@@ -226,5 +253,5 @@ pub fn write(f: Fields, list: &mut [u16]) -> bool
 pub fn put(f: Fields, reply: &mut [u16; NUMBERS])
     ensures { reply.new ≡ numbers_of f }
 {
-    write(f, &mut reply[..]);
+    *reply = f.into();
 }

@@ -1,2 +1,2 @@
--- A list copied, and two copied one behind the other.
+-- Parts of a list, one behind the other.
 pub mod CopyLaws

@@ -2,8 +2,7 @@
 // 2.2, 3.2).
 #![tactic(auto)]
 
-ghost use Rattle.std.specs.Prelude.{◌+◌, ◌≤◌, ◌≡◌, length};
-ghost use Rattle.std.proofs.Math.Seq.{paste};
+ghost use Rattle.std.specs.Prelude.{◌≡◌, length};
 ghost use Rattle.convexity.specs.Clockwise.{opposite as opposite_of, backward};
 ghost use Rattle.clockwise_copy.specs.parts.ClockwiseCopy.{Turned, read_place, SentTo};
 
@@ -19,28 +18,14 @@ fn opposite(letter: u8) -> u8
     if letter < 4 { (letter + 2) % 4 } else { 1 }
 }
 
-// Copies a list into the buffer, from a place of the buffer on.
-fn copy(list: &[u8], round: &mut [u8], to: usize)
-    requires { to + length list.now ≤ length round.old }
-    ensures { round.new ≡ paste round.old to list.now (length list.now) }
-{
-    let mut i = 0;
-    while i < list.len() {
-        round[to + i] = list[i];
-        i += 1;
-    }
-}
-
-// The same for the walk in the opposite sense: the last letter first, each as its opposite.
-fn copy_back(list: &[u8], round: &mut [u8], to: usize)
-    requires { to + length list.now ≤ length round.old }
-    ensures { round.new ≡ paste round.old to (backward list.now) (length list.now) }
+// Writes a list as the walk in the opposite sense: the last letter first, each as its opposite.
+fn copy_back(list: &[u8], part: &mut [u8])
+    requires { length part.old ≡ length list.now }
+    ensures { part.new ≡ backward list.now }
 {
     let n = list.len();
-    let mut i = 0;
-    while i < n {
-        round[to + i] = opposite(list[n - 1 - i]);
-        i += 1;
+    for (i, letter) in part.iter_mut().enumerate() {
+        *letter = opposite(list[n - 1 - i]);
     }
 }
 
@@ -52,26 +37,25 @@ pub fn fill_round(w: &[u8], from: usize, forward: bool, round: &mut [u8])
     if round.len() < n || n < from {
         return;
     }
+    let before = &w[..from];
+    let after = &w[from..];
     if forward {
-        copy(&w[from..], round, 0);
-        copy(&w[..from], round, n - from);
-        return;
+        round[..n - from].copy_from_slice(after);
+        round[n - from..n].copy_from_slice(before);
+    } else {
+        copy_back(before, &mut round[..from]);
+        copy_back(after, &mut round[from..n]);
     }
-    copy_back(&w[..from], round, 0);
-    copy_back(&w[from..], round, from);
 }
 
 // Where the letter that leaves a corner stands in the clockwise form, from its place in the list as sent, of n letters.
 pub fn read_place(n: usize, w: usize, forward: bool) -> usize
     ensures { result ≡ read_place forward n w }
 {
-    if forward {
+    if forward || w == 0 {
         return w;
     }
-    if w == 0 {
-        return 0;
-    }
-    if n < w { 0 } else { n - w }
+    n.saturating_sub(w)
 }
 
 // The letter i of the border as a place of the list as sent, of n letters, where W's letter stands at w in the clockwise form.

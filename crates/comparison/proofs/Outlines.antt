@@ -1,4 +1,5 @@
 -- A comparison of two taken outlines: nothing refuses their anchors and edges, and the cells of their hulls are the enclosed cells.
+use Rattle.std.specs.Prelude.{Result, Ok, Err}
 use Prim.Native.Nat.{ℕ, ◌*◌}
 use native.Mathlib.Omega.{arith}
 use mathlib.Core.Path.{◌≡◌, refl, sym, ap, ◌∙◌}
@@ -8,9 +9,9 @@ use lib.IntN.{ℤ}
 use Rattle.chart.specs.declared.Point.{Point}
 use Rattle.chart.specs.declared.Nesting.{Nesting}
 use Rattle.chart.specs.declared.Nesting.TheVariants.{Equal, FirstWithin, SecondWithin, Apart, Crossing}
-use Rattle.chart.specs.declared.Verdict.{Verdict}
-use Rattle.chart.specs.declared.Verdict.TheVariants.{Taken, Refused}
-use Rattle.chart.specs.declared.Comparison.TheVariants.{Found}
+use Rattle.chart.specs.declared.Refusal.{Refusal}
+use Rattle.chart.specs.declared.Taken.{Taken}
+use Rattle.chart.specs.Taken.{taken_with}
 use Rattle.chart.specs.Outline.{Outline}
 use Rattle.chart.specs.Fields.{verdict_fields, nesting_fields, comparison_fields}
 use Rattle.chart.proofs.RefusalLaws.{refusal-number}
@@ -22,19 +23,18 @@ use Rattle.verdict.proofs.VerdictLaws.{taken-facts, roomy, edges-first}
 use Rattle.nesting.specs.Cells.{polygon}
 use Rattle.nesting.specs.Answer.{nesting}
 use Rattle.nesting.proofs.Blocks.{taken-fit, blocks-iff}
-use Rattle.comparison.specs.declared.Checked.TheVariants.{Fit}
 use Rattle.comparison.specs.Compared.{checked_of, comparison_of}
 use Rattle.comparison.specs.Outlines.{anchor_from, edges_from, BlocksNamed}
 use Rattle.comparison.proofs.Cases.{checked-fit, compared-found}
 use Rattle.comparison.proofs.Words.{word-once}
 
 -- Nothing refuses the list of a taken outline
-pub taken-checked : {o : Outline} {a : Point} {es : List ℤ} → HasEdges o a es → Fit ≡ checked_of a es
+pub taken-checked : {o : Outline} {a : Point} {es : List ℤ} → HasEdges o a es → Ok tt ≡ checked_of a es
 taken-checked {o} {a} {es} h = checked-fit a es (taken-listed h) (taken-anchored h) (taken-fit h).passes (taken-fit h).placed
 
 module _ {o v : Outline} {a b : Point} {es fs : List ℤ} (h : HasEdges o a es) (k : HasEdges v b fs) where
   -- The result for two of them
-  pub outlines-found : comparison_of a es b fs ≡ Found (nesting (polygon a es) (polygon b fs))
+  pub outlines-found : comparison_of a es b fs ≡ Ok (nesting (polygon a es) (polygon b fs))
   outlines-found = sym (compared-found a es b fs (taken-checked h) (taken-checked k))
 
   found_number : (n : Nesting) → (nesting_fields n).number ≡ 0
@@ -61,15 +61,15 @@ module _ {o v : Outline} {a b : Point} {es fs : List ℤ} (h : HasEdges o a es) 
 record Tested (o : Outline) (buffer : List ℤ) : Type 0 where
   count : ℕ
   anchor : Point
-  said : test_of o (length buffer) ≡ Taken count anchor
+  said : test_of o (length buffer) ≡ taken_with count anchor
 
 tested : (o : Outline) (buffer : List ℤ) → (test_fields o (length buffer)).number ≡ 0 → Tested o buffer
 unfolding test_fields
 tested o buffer e = go (test_of o (length buffer)) refl e
   where
-    go : (v : Verdict) → test_of o (length buffer) ≡ v → (verdict_fields v).number ≡ 0 → Tested o buffer
-    go (Taken n a) s d = record { count = n; anchor = a; said = s }
-    go (Refused f) s d = absurd (omega (arith, refusal-number f))
+    go : (v : Result Taken Refusal) → test_of o (length buffer) ≡ v → (verdict_fields v).number ≡ 0 → Tested o buffer
+    go (Ok t) s d = record { count = t.edges; anchor = t.anchor; said = s }
+    go (Err f) s d = absurd (omega (arith, refusal-number f))
 
 pub test_has : (o : Outline) (buffer : List ℤ) → (test_fields o (length buffer)).number ≡ 0
     → HasEdges o (anchor_from o buffer) (edges_from o buffer)
@@ -80,9 +80,9 @@ test_has o buffer e =
     record {
       reaches = f.reaches;
       smooth = f.undented;
-      anchor = sym f.anchor ∙ ap (λ (v : Verdict). cell_of (verdict_fields v)) (sym t.said);
+      anchor = sym f.anchor ∙ ap (λ (v : Result Taken Refusal). cell_of (verdict_fields v)) (sym t.said);
       edged = sym (edges-first o buffer t.count t.anchor t.said)
-          ∙ ap (λ (v : Verdict). take (2 * (verdict_fields v).place) (edges_after o buffer)) (sym t.said);
+          ∙ ap (λ (v : Result Taken Refusal). take (2 * (verdict_fields v).place) (edges_after o buffer)) (sym t.said);
     }
 
 -- The claim: for two taken outlines, with the anchors and edges that their tests

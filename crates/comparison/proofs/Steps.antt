@@ -14,7 +14,7 @@ use Rattle.directions.specs.CornerHull.{chart_number, is_on_chart, Met}
 use Rattle.directions.proofs.OnChart.{number, on-parts}
 use Rattle.edge_walk.specs.declared.Corner.{Corner}
 use Rattle.edge_walk.specs.parts.Walk.{started, stepped, cell_at}
-use Rattle.edge_walk.proofs.Loop.{edge_at, next_edge, no_edge}
+use Rattle.edge_walk.proofs.Loop.{Chunk, next_edge, no_edge}
 use Rattle.nesting.specs.Corners.{every_corner, corners_on_chart}
 use Rattle.nesting.proofs.CornerTests.{every-met}
 
@@ -26,18 +26,14 @@ is_on k = is_on_chart k.col k.row
 abbrev pub stays : List Edge → Corner → Bool
 stays es k = corners_on_chart es k.col k.row
 
--- The corner cell at the end of the edge at place i
-abbrev pub next_corner : List ℤ → ℕ → Corner → Corner
-next_corner es i k = stepped k (edge_at es i).0 (edge_at es i).1
-
 stays_here : (es : List Edge) (k : Corner) → stays es k ≡ true → is_on k ≡ true
 unfolding corners_on_chart
 stays_here es k e = every-met is_on_chart (Met.start {es = es}) e
 
 module _ (es : List ℤ) (i : ℕ) (k : Corner) where
-  stays-next : i + 1 < length es → stays (pairs (drop i es)) k ≡ (is_on k && stays (pairs (drop (i + 2) es)) (next_corner es i k))
+  stays-next : {dx dy : ℤ} → Chunk es dx dy i → stays (pairs (drop i es)) k ≡ (is_on k && stays (pairs (drop (i + 2) es)) (stepped k dx dy))
   unfolding corners_on_chart every_corner
-  stays-next h = rw (next_edge es i h)
+  stays-next e = rw (next_edge es i e.inside, e.across, e.up)
 
   stays-end : length es ≤ i + 1 → stays (pairs (drop i es)) k ≡ is_on k
   unfolding corners_on_chart every_corner
@@ -51,12 +47,12 @@ pub record Leaving (es : List ℤ) (k₀ : Corner) (i : ℕ) (k : Corner) : Type
   pub left : stays (pairs es) k₀ ≡ stays (pairs (drop i es)) k
 
 module _ {es : List ℤ} {k₀ : Corner} {i : ℕ} {k : Corner} (l : Leaving es k₀ i k) where
-  module _ (h : i + 1 < length es) where
-    pub leaving-next : is_on k ≡ true → Leaving es k₀ (i + 2) (next_corner es i k)
-    leaving-next e = record { passed = omega arith; left = l.left ∙ stays-next es i k h ∙ rw e }
+  module _ {dx dy : ℤ} (edge : Chunk es dx dy i) where
+    pub leaving-next : is_on k ≡ true → Leaving es k₀ (i + 2) (stepped k dx dy)
+    leaving-next e = let inside = edge.inside in record { passed = omega arith; left = l.left ∙ stays-next es i k edge ∙ rw e }
 
     pub leaving-off : is_on k ≡ false → stays (pairs es) k₀ ≡ false
-    leaving-off e = l.left ∙ stays-next es i k h ∙ rw e
+    leaving-off e = l.left ∙ stays-next es i k edge ∙ rw e
 
   pub leaving-end : length es ≤ i + 1 → stays (pairs es) k₀ ≡ is_on k
   leaving-end h = l.left ∙ stays-end es i k h
@@ -90,16 +86,16 @@ module _ {es : List ℤ} {i : ℕ} {p : Point} (s : Standing es i p) where
       below : (n : ℕ) → chart_number (pos n) ≡ true → n < side
       below n h = let m = number (pos n) h in omega (arith, ap nat_abs m.1, m.2)
 
-  module _ (h : i + 1 < length es) where
-    next-rest : stays (pairs (drop (i + 2) es)) (next_corner es i (started p)) ≡ true
-    next-rest = ((and-eq-true_iff (is_on (started p)) _).0 (sym (stays-next es i (started p) h) ∙ s.rest)).1
+  module _ {dx dy : ℤ} (edge : Chunk es dx dy i) where
+    next-rest : stays (pairs (drop (i + 2) es)) (stepped (started p) dx dy) ≡ true
+    next-rest = ((and-eq-true_iff (is_on (started p)) _).0 (sym (stays-next es i (started p) edge) ∙ s.rest)).1
 
     -- So is the next one, and the walk stands there after the edge
-    pub next-on : is_on (next_corner es i (started p)) ≡ true
-    next-on = stays_here (pairs (drop (i + 2) es)) (next_corner es i (started p)) next-rest
+    pub next-on : is_on (stepped (started p) dx dy) ≡ true
+    next-on = stays_here (pairs (drop (i + 2) es)) (stepped (started p) dx dy) next-rest
 
-    pub next-cell : next_corner es i (started p) ≡ started (cell_at (next_corner es i (started p)))
-    next-cell = on-cell (next_corner es i (started p)) next-on
+    pub next-cell : stepped (started p) dx dy ≡ started (cell_at (stepped (started p) dx dy))
+    next-cell = on-cell (stepped (started p) dx dy) next-on
 
-    pub standing-next : Standing es (i + 2) (cell_at (next_corner es i (started p)))
-    standing-next = record { passed = omega arith; rest = subst (λ k. stays (pairs (drop (i + 2) es)) k ≡ true) next-cell next-rest }
+    pub standing-next : Standing es (i + 2) (cell_at (stepped (started p) dx dy))
+    standing-next = let inside = edge.inside in record { passed = omega arith; rest = subst (λ k. stays (pairs (drop (i + 2) es)) k ≡ true) next-cell next-rest }

@@ -12,14 +12,14 @@ use Rattle.chart.specs.declared.Point.{Point}
 use Rattle.convexity.specs.Edges.{pairs}
 use Rattle.edge_walk.specs.declared.Corner.{Corner}
 use Rattle.edge_walk.specs.parts.Walk.{started, stepped, cell_at}
-use Rattle.edge_walk.proofs.Loop.{edge_at, next_edge, no_edge}
+use Rattle.edge_walk.proofs.Loop.{Chunk, next_edge, no_edge}
 use Rattle.nesting.specs.Cells.{polygon, Fit}
 use Rattle.nesting.specs.Rows.{start_at, end_after}
 use Rattle.sweep.specs.parts.Sweep.{between, corner_from, corner_to, rise_from, fall_to, swept_from, swept_to, row_from, row_to}
 use Rattle.sweep.proofs.Items.{swept-from-below}
 use Rattle.comparison.specs.parts.Rows.{first_of, end_of, in_rows, met_from, met_to, risen_from, fallen_to, AllBelow, Lowered, Raised, Swept}
 use Rattle.comparison.proofs.Columns.{rise-is, side-is}
-use Rattle.comparison.proofs.Steps.{next_corner, Standing, next-cell, standing-next}
+use Rattle.comparison.proofs.Steps.{Standing, next-cell, standing-next}
 use Rattle.comparison.proofs.Lists.{lowered-below}
 
 -- ---- a corner cell
@@ -70,24 +70,18 @@ module _ (dx dy : ℤ) (p q : Point) (e : stepped (started p) dx dy ≡ started 
 
 -- At a place of the loop the walk from p is the corner cell p, the edge, and the walk from q
 module _ (es : List ℤ) (i : ℕ) (p : Point) (r : ℕ) where
-  module _ (q : Point) (e : next_corner es i (started p) ≡ started q) (h : i + 1 < length es) where
-    abbrev dx : ℤ
-    dx = (edge_at es i).0
-
-    abbrev dy : ℤ
-    dy = (edge_at es i).1
-
+  module _ (q : Point) {dx dy : ℤ} (e : stepped (started p) dx dy ≡ started q) (edge : Chunk es dx dy i) where
     from_next :
         swept_from (pairs (drop i es)) (pos p.col) (pos p.row) r
         ≡ min (min (met_from p r) (risen_from p q r)) (swept_from (pairs (drop (i + 2) es)) (pos q.col) (pos q.row) r)
     unfolding swept_from met_from
-    from_next = rw (next_edge es i h, rise-told dx dy p q e r, is-col dx dy p q e, is_row dx dy p q e) refl
+    from_next = rw (next_edge es i edge.inside, edge.across, edge.up, rise-told dx dy p q e r, is-col dx dy p q e, is_row dx dy p q e) refl
 
     to-next :
         swept_to (pairs (drop i es)) (pos p.col) (pos p.row) r
         ≡ max (max (met_to p r) (fallen_to p q r)) (swept_to (pairs (drop (i + 2) es)) (pos q.col) (pos q.row) r)
     unfolding swept_to met_to
-    to-next = rw (next_edge es i h, fall-told dx dy p q e r, is-col dx dy p q e, is_row dx dy p q e) refl
+    to-next = rw (next_edge es i edge.inside, edge.across, edge.up, fall-told dx dy p q e r, is-col dx dy p q e, is_row dx dy p q e) refl
 
   -- At its end only a corner cell is left
   module _ (h : length es ≤ i + 1) where
@@ -132,19 +126,19 @@ sweeping-start es a first end fit e f =
     }
 
 module _ {es : List ℤ} {a : Point} {i : ℕ} {p : Point} {first end : List ℕ} (w : Sweeping es a i p first end) where
-  pub sweeping-next : {met risen reached fallen : List ℕ} → i + 1 < length es →
-      let q = cell_at (next_corner es i (started p)) in
+  pub sweeping-next : {met risen reached fallen : List ℕ} {dx dy : ℤ} → Chunk es dx dy i →
+      let q = cell_at (stepped (started p) dx dy) in
       Lowered (met_from p) first met → Raised (met_to p) end reached → Lowered (risen_from p q) met risen
       → Raised (fallen_to p q) reached fallen
       → Sweeping es a (i + 2) q risen fallen
-  sweeping-next h m n s t =
-      let e = next-cell w.stands h in
+  sweeping-next edge m n s t =
+      let e = next-cell w.stands edge in
       record {
-        stands = standing-next w.stands h;
+        stands = standing-next w.stands edge;
         below = lowered-below (lowered-below w.below m) s;
         wide = t.long ∙ n.long ∙ w.wide;
-        from = λ r l. omega (arith, s.at r l, m.at r l, from_next es i p r _ e h, w.from r l);
-        to = λ r l. omega (arith, t.at r l, n.at r l, to-next es i p r _ e h, w.to r l);
+        from = λ r l. omega (arith, s.at r l, m.at r l, from_next es i p r _ e edge, w.from r l);
+        to = λ r l. omega (arith, t.at r l, n.at r l, to-next es i p r _ e edge, w.to r l);
       }
 
   pub sweeping-end : {met reached : List ℕ} → length es ≤ i + 1 → Lowered (met_from p) first met → Raised (met_to p) end reached

@@ -4,6 +4,7 @@ use native.Mathlib.Omega.{arith}
 use mathlib.Core.Path.{◌≡◌, refl, sym, ap, ◌∙◌}
 use mathlib.Core.Bool.{cond}
 use mathlib.Core.List.{List, []}
+use Rattle.std.specs.Prelude.{Result, Ok, Err}
 use lib.Dec.{eqb}
 use lib.IntN.{ℤ}
 use denote.Ref.{Bor}
@@ -11,19 +12,14 @@ use Rattle.chart.specs.declared.Point.{Point}
 use Rattle.chart.specs.declared.Fields.{Fields}
 use Rattle.chart.specs.declared.Nesting.{Nesting}
 use Rattle.chart.specs.declared.Nesting.TheVariants.{Equal, FirstWithin, SecondWithin, Apart, Crossing}
-use Rattle.chart.specs.declared.Comparison.{Comparison}
-use Rattle.chart.specs.declared.Comparison.TheVariants.{Found, Refused}
+use Rattle.chart.specs.declared.RefusedList.{RefusedList}
 use Rattle.chart.specs.declared.Refusal.{Refusal}
 use Rattle.chart.proofs.RefusalLaws.{refusal-number}
 use Rattle.chart.specs.Fields.{placed, refusal_fields, nesting_fields, comparison_fields}
 use Rattle.nesting.specs.Cells.{polygon}
 use Rattle.nesting.specs.Answer.{nesting}
 use Rattle.nesting.proofs.Answer.{answer-iff}
-use Rattle.comparison.specs.declared.Checked.{Checked}
-use Rattle.comparison.specs.declared.Checked.TheVariants.{Fit, Unfit}
-use Rattle.comparison.specs.declared.Returned.{Returned}
-use Rattle.comparison.specs.declared.Returned.TheVariants.{First, Second, Neither}
-use Rattle.comparison.specs.Compared.{checked_of, decided, comparison_of, CellsNamed, returned_with, returned_by, ReturnedList}
+use Rattle.comparison.specs.Compared.{checked_of, decided, comparison_of, CellsNamed, ReturnedList}
 use Rattle.comparison.proofs.Cases.{fit-passes}
 
 -- Each word belongs to one result
@@ -53,12 +49,12 @@ module _ (a : Point) (es : List ℤ) (b : Point) (fs : List ℤ) where
   unnamed n f = record { says = λ v e. absurd (omega (arith, word-above v)); only = λ e. absurd (omega (arith, refusal-number f)) }
 
   named :
-      (s t : Checked) → s ≡ checked_of a es → t ≡ checked_of b fs
+      (s t : Result (Unit {0}) Refusal) → s ≡ checked_of a es → t ≡ checked_of b fs
       → CellsNamed (polygon a es) (polygon b fs) (comparison_fields (decided s t (nesting (polygon a es) (polygon b fs))))
   unfolding decided
-  named (Unfit f) t p q = unnamed 1 f
-  named Fit (Unfit f) p q = unnamed 2 f
-  named Fit Fit p q =
+  named (Err f) t p q = unnamed 1 f
+  named (Ok u) (Err f) p q = unnamed 2 f
+  named (Ok u) (Ok w) p q =
       let iff = answer-iff (polygon a es) (polygon b fs) (fit-passes a es p) (fit-passes b fs q) in
       record {
         says = λ v e. (iff v).1 (word-once (nesting (polygon a es) (polygon b fs)) v e);
@@ -71,29 +67,11 @@ module _ (a : Point) (es : List ℤ) (b : Point) (fs : List ℤ) where
 
   -- The same for anything equal to that result
   pub answer-named :
-      (c : Comparison) → c ≡ comparison_of a es b fs
+      (c : Result Nesting RefusedList) → c ≡ comparison_of a es b fs
       → (c ≡ comparison_of a es b fs) × CellsNamed (polygon a es) (polygon b fs) (comparison_fields c)
   answer-named c e = (e, rw e cells-named)
 
 -- The piece of a reply names the list that comes with it
-abbrev pub piece_by : Returned → ℕ
-piece_by First = 1
-piece_by Second = 2
-piece_by Neither = 0
-
-with-piece : (v : Nesting) → (nesting_fields v).piece ≡ piece_by (returned_with v)
-unfolding returned_with
-with-piece Equal = refl
-with-piece FirstWithin = refl
-with-piece SecondWithin = refl
-with-piece Apart = refl
-with-piece Crossing = refl
-
-pub returned-piece : (c : Comparison) → (comparison_fields c).piece ≡ piece_by (returned_by c)
-unfolding returned_by
-returned-piece (Found v) = with-piece v
-returned-piece (Refused n f) = refl
-
 module _ (f : Fields) (first second : Bor (List ℤ)) where
   pub returned-one : f.piece ≡ 1 → ReturnedList f first first second
   returned-one e = record { one = λ h. refl; two = λ h. absurd (omega arith); neither = λ h. absurd (omega arith) }

@@ -16,18 +16,6 @@ const END: u32 = SIDE as u32;
 // The first column of an empty row.
 const NO_COLUMN: u8 = SIDE as u8;
 
-fn lesser(a: u32, b: u32) -> u32
-    ensures { result ≡ min a b }
-{
-    if a < b { a } else { b }
-}
-
-fn greater(a: u32, b: u32) -> u32
-    ensures { result ≡ max a b }
-{
-    if a < b { b } else { a }
-}
-
 // An edge at a row: it goes from row y to row v, and its side value at column 0 is plus - minus.
 #[derive(Clone, Copy)]
 struct EdgeAtRow {
@@ -37,20 +25,31 @@ struct EdgeAtRow {
     minus: u32,
 }
 
-// The edge from p to q at a row.
-fn edge_at_row(p: Point, q: Point, row: u32) -> EdgeAtRow
-    requires { (p.col < side) × (p.row < side) × (q.col < side) × (q.row < side) × (row < side) }
-    ensures { (result ≡ edge_at_row p q row) × (result.plus < 2 * 65536) }
-{
-    let x = p.col as u32;
-    let y = p.row as u32;
-    let u = q.col as u32;
-    let v = q.row as u32;
-    EdgeAtRow {
-        y,
-        v,
-        plus: u * y + x * row,
-        minus: v * x + u * row,
+// An edge from p to q, two cells of the chart.
+#[derive(Clone, Copy)]
+struct Edge {
+    p: Point,
+    q: Point,
+    ghost on_chart: { (p.col < side) × (p.row < side) × (q.col < side) × (q.row < side) },
+}
+
+impl Edge {
+    // The edge at a row.
+    #[tactic(auto, using(crate::proofs::Columns::product_small))]
+    fn at_row(self, row: u32) -> EdgeAtRow
+        requires { row < side }
+        ensures { (result ≡ edge_at_row self.p self.q row) × (result.plus < 2 * 65536) }
+    {
+        let x = u32::from(self.p.col);
+        let y = u32::from(self.p.row);
+        let u = u32::from(self.q.col);
+        let v = u32::from(self.q.row);
+        EdgeAtRow {
+            y,
+            v,
+            plus: u * y + x * row,
+            minus: v * x + u * row,
+        }
     }
 }
 
@@ -84,80 +83,79 @@ fn end_column(e: EdgeAtRow) -> u32
     (e.plus - e.minus) / (e.y - e.v) + 1
 }
 
-// The minimum of a byte and a number.
+// The minimum of a byte and a number, and the maximum. They are not the library's alone: the number may be above 255.
 fn lower(a: u8, b: u32) -> u8
     ensures { result ≡ min a b }
 {
-    lesser(a as u32, b) as u8
+    u32::from(a).min(b) as u8
 }
 
-// The maximum of a byte and a number. A number above 255 counts as 255.
+// A number above 255 counts as 255.
 fn higher(a: u8, b: u32) -> u8
     ensures { result ≡ max a (min b side) }
 {
-    greater(a as u32, lesser(b, END)) as u8
+    u32::from(a).max(b.min(END)) as u8
 }
 
+// kept: the functions for the left side and the right side are not one function with closures, as they differ in the bound, in minimum or
+// maximum, and in what they require of the array, and each closure would carry all three.
 // The column of a corner cell belongs to its row.
 fn corner_first(at: Point, first: &mut [u8; ROWS])
     requires { (at.col < side) × (at.row < side) × AllBelow first.old }
     ensures { Lowered (met_from at) first.old first.new }
 {
-    let row = at.row as usize;
-    first[row] = lower(first[row], at.col as u32);
+    let row = usize::from(at.row);
+    first[row] = lower(first[row], u32::from(at.col));
 }
 
 fn corner_end(at: Point, end: &mut [u8; ROWS])
     requires { (at.col < side) × (at.row < side) × (length end.old ≡ 256) }
     ensures { Raised (met_to at) end.old end.new }
 {
-    let row = at.row as usize;
-    end[row] = higher(end[row], at.col as u32 + 1);
+    let row = usize::from(at.row);
+    end[row] = higher(end[row], u32::from(at.col) + 1);
 }
 
-// An edge that rises from p to q bounds the rows between them on the left.
-fn rise(p: Point, q: Point, first: &mut [u8; ROWS])
-    requires { (p.col < side) × (p.row < side) × (q.col < side) × (q.row < side) × AllBelow first.old }
-    ensures { Lowered (risen_from p q) first.old first.new }
+// An edge that rises bounds the rows between its cells on the left.
+fn rise(edge: Edge, first: &mut [u8; ROWS])
+    requires { AllBelow first.old }
+    ensures { Lowered (risen_from edge.p edge.q) first.old first.new }
 {
-    let mut row = p.row as usize + 1;
-    while row < q.row as usize {
-        first[row] = lower(first[row], first_column(edge_at_row(p, q, row as u32)));
-        row += 1;
+    for row in edge.p.row + 1..edge.q.row {
+        let bound = first_column(edge.at_row(u32::from(row)));
+        let at = usize::from(row);
+        first[at] = lower(first[at], bound);
     }
 }
 
 // An edge that falls bounds the rows between on the right.
-fn fall(p: Point, q: Point, end: &mut [u8; ROWS])
-    requires { (p.col < side) × (p.row < side) × (q.col < side) × (q.row < side) × (length end.old ≡ 256) }
-    ensures { Raised (fallen_to p q) end.old end.new }
+fn fall(edge: Edge, end: &mut [u8; ROWS])
+    requires { length end.old ≡ 256 }
+    ensures { Raised (fallen_to edge.p edge.q) end.old end.new }
 {
-    let mut row = q.row as usize + 1;
-    while row < p.row as usize {
-        end[row] = higher(end[row], end_column(edge_at_row(p, q, row as u32)));
-        row += 1;
+    for row in edge.q.row + 1..edge.p.row {
+        let bound = end_column(edge.at_row(u32::from(row)));
+        let at = usize::from(row);
+        end[at] = higher(end[at], bound);
     }
 }
 
-// The first column of every row and the column past the last, in one walk. The arrays come in with every row empty.
+// The first column of every row and the column past the last, in one walk. The arrays come in with every row empty. They are two, so that
+// the loop of `compare_rows` takes the bytes of many rows at once.
 fn sweep(anchor: Point, edges: &[i16], first: &mut [u8; ROWS], end: &mut [u8; ROWS])
     requires { Fit (polygon anchor edges.now) × (first.old ≡ replicate 256 side) × (end.old ≡ replicate 256 0) }
     ensures { Swept (polygon anchor edges.now) first.new end.new }
 {
     let mut at = anchor;
-    let mut i = 0;
-    while i + 1 < edges.len() {
+    let (list, _) = edges.as_chunks::<2>();
+    for &[dx, dy] in list {
         corner_first(at, first);
         corner_end(at, end);
-        let next = edge_walk::cell(edge_walk::further(
-            edge_walk::start(at),
-            edges[i],
-            edges[i + 1],
-        ));
-        rise(at, next, first);
-        fall(at, next, end);
+        let next = edge_walk::cell(edge_walk::further(edge_walk::start(at), dx, dy));
+        let edge = Edge { p: at, q: next };
+        rise(edge, first);
+        fall(edge, end);
         at = next;
-        i += 2;
     }
     corner_first(at, first);
     corner_end(at, end);
@@ -183,16 +181,15 @@ fn compare_rows<'a>(
     let mut inward = true;
     let mut outward = true;
     let mut apart = true;
-    let mut row = 0;
-    while row < SIDE as usize {
+    // Four lists at once: three `zip`s with their nested pairs are no plainer than the row.
+    for row in 0..usize::from(SIDE) {
         let a = first[row];
         let b = end[row];
         let c = other_first[row];
         let d = other_end[row];
-        inward = inward & ((b <= a) | ((c <= a) & (b <= d)));
-        outward = outward & ((d <= c) | ((a <= c) & (d <= b)));
-        apart = apart & ((b <= a) | (d <= c) | (b <= c) | (d <= a));
-        row += 1;
+        inward &= (b <= a) | ((c <= a) & (b <= d));
+        outward &= (d <= c) | ((a <= c) & (d <= b));
+        apart &= (b <= a) | (d <= c) | (b <= c) | (d <= a);
     }
     Tests {
         inward,

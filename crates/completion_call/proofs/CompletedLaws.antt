@@ -1,4 +1,5 @@
 -- The cases of a completion, and what each says about cells: 1 to 6 refuse it, the buffer is too short, or the letters are written.
+use Rattle.std.specs.Prelude.{Result, Ok, Err}
 use Prim.Native.Nat.{ℕ, ◌≤◌, ◌<◌}
 use native.Mathlib.Omega.{arith}
 use mathlib.Core.Path.{◌≡◌, refl, sym, ap, ◌∙◌, subst}
@@ -12,15 +13,13 @@ use Rattle.chart.specs.Limits.{most_numbers}
 use Rattle.chart.specs.declared.Point.{Point}
 use Rattle.chart.specs.declared.Refusal.{Refusal}
 use Rattle.chart.specs.declared.Refusal.TheVariants.{LetterBuffer}
-use Rattle.chart.specs.declared.Verdict.{Verdict}
-use Rattle.chart.specs.declared.Verdict.TheVariants.{Taken, Refused as TurnedBack}
+use Rattle.chart.specs.declared.Taken.{Taken}
 use Rattle.chart.specs.Outline.{Outline, outline, at}
 use Rattle.chart.specs.Fields.{refusal_fields, verdict_fields}
 use Rattle.chart.proofs.RefusalLaws.{refusal-number}
 use Rattle.lattice.specs.Chart.{size}
 use Rattle.lattice.specs.Refusals.{Simple}
-use Rattle.survey.specs.declared.Surveyed.{Surveyed}
-use Rattle.survey.specs.declared.Surveyed.TheVariants.{Passed, Refused as Stopped}
+use Rattle.survey_walk.specs.declared.Corners.{Corners}
 use Rattle.survey.specs.Survey.{survey_of}
 use Rattle.survey.proofs.SurveyLaws.{survey-passed}
 use Rattle.rows.specs.parts.Rows.{rows}
@@ -39,41 +38,40 @@ use Rattle.completion.specs.Complete.{complete as completion_of}
 use Rattle.completion.specs.parts.Written.{written_from}
 use Rattle.completion.proofs.Theorem.{complete-simple, complete-hull}
 use Rattle.completion.proofs.Answers.{complete-taken-as}
-use Rattle.completion_call.specs.declared.Completed.TheVariants.{Written, Refused}
-use Rattle.completion_call.specs.Completion.{letters_in, after_survey, completed_of, completed_fields, written_after, completion_after}
+use Rattle.completion_call.specs.Completion.{written, letters_in, after_survey, completed_of, completed_fields, written_after, completion_after}
 use Rattle.completion_call.specs.Named.{outline_in, Completes}
 use Rattle.completion_call.specs.parts.Answers.{Answers}
 use Rattle.completion_call.proofs.HullEnds.{HullOf}
 
 -- The number of a refusal of 1 to 6
-pub stopped-number : (o : Outline) {f : Refusal} → survey_of o ≡ Stopped f → (0 < (refusal_fields f).number) × ((refusal_fields f).number < 18)
+pub stopped-number : (o : Outline) {f : Refusal} → survey_of o ≡ Err f → (0 < (refusal_fields f).number) × ((refusal_fields f).number < 18)
 unfolding verdict_after
 stopped-number o {f} e = (refusal-number f, omega (arith, refused-number o {f = f} (verdict-chain o ∙ rw e)))
 
 -- ---- the cases
 
-letters-short : (n : ℕ) (v : Outline) → n < size v → letters_in n v ≡ Refused LetterBuffer
+letters-short : (n : ℕ) (v : Outline) → n < size v → letters_in n v ≡ Err LetterBuffer
 unfolding letters_in
-letters-short n v l = ap (λ (b : Bool). cond b (Refused LetterBuffer) (Written (size v) v.start)) (lt-ltb n (size v) l)
+letters-short n v l = ap (λ (b : Bool). cond b (Err LetterBuffer) (written (size v) v.start)) (lt-ltb n (size v) l)
 
-letters-written : (n : ℕ) (v : Outline) → size v ≤ n → letters_in n v ≡ Written (size v) v.start
+letters-written : (n : ℕ) (v : Outline) → size v ≤ n → letters_in n v ≡ written (size v) v.start
 unfolding letters_in
-letters-written n v l = ap (λ (b : Bool). cond b (Refused LetterBuffer) (Written (size v) v.start)) (le-ltb n (size v) l)
+letters-written n v l = ap (λ (b : Bool). cond b (Err LetterBuffer) (written (size v) v.start)) (le-ltb n (size v) l)
 
 module _ (o : Outline) (n : ℕ) where
-  pub completed-stopped : {f : Refusal} → survey_of o ≡ Stopped f → completed_of o n ≡ Refused f
+  pub completed-stopped : {f : Refusal} → survey_of o ≡ Err f → completed_of o n ≡ Err f
   unfolding completed_of after_survey
   completed-stopped e = rw e refl
 
   past-survey : Simple o → completed_of o n ≡ letters_in n (border (completion_of o))
   unfolding completed_of after_survey
-  past-survey h = ap (λ (s : Surveyed). after_survey s (letters_in n (border (completion_of o)))) (sym (survey-passed o h))
+  past-survey h = ap (λ (s : Result Corners Refusal). after_survey s (letters_in n (border (completion_of o)))) (sym (survey-passed o h))
 
-  pub completed-short : Simple o → n < size (border (completion_of o)) → completed_of o n ≡ Refused LetterBuffer
+  pub completed-short : Simple o → n < size (border (completion_of o)) → completed_of o n ≡ Err LetterBuffer
   completed-short h l = past-survey h ∙ letters-short n (border (completion_of o)) l
 
   pub completed-written : Simple o → size (border (completion_of o)) ≤ n
-      → completed_of o n ≡ Written (size (border (completion_of o))) (border (completion_of o)).start
+      → completed_of o n ≡ written (size (border (completion_of o))) (border (completion_of o)).start
   completed-written h l = past-survey h ∙ letters-written n (border (completion_of o)) l
 
 -- ---- the border of a completion
@@ -83,9 +81,10 @@ pub tested-taken : (v : Outline) (m : ℕ) → most_numbers ≤ m → (verdict_f
 unfolding test_fields
 tested-taken v m l e = go (verdict_of v) refl
   where
-    go : (z : Verdict) → verdict_of v ≡ z → (verdict_fields (test_of v m)).number ≡ 0
-    go (Taken n a) q = ap (λ (u : Verdict). (verdict_fields u).number) (test-taken v m n a q (omega (arith, taken-fits v n a q)))
-    go (TurnedBack f) q = absurd (omega (arith, refusal-number f, ap (λ (u : Verdict). (verdict_fields u).number) (sym q), e))
+    go : (z : Result Taken Refusal) → verdict_of v ≡ z → (verdict_fields (test_of v m)).number ≡ 0
+    go (Ok t) q =
+        ap (λ (u : Result Taken Refusal). (verdict_fields u).number) (test-taken v m t.edges t.anchor q (omega (arith, taken-fits v t.edges t.anchor q)))
+    go (Err f) q = absurd (omega (arith, refusal-number f, ap (λ (u : Result Taken Refusal). (verdict_fields u).number) (sym q), e))
 
 module _ (o : Outline) (h : Simple o) where
   abbrev anchor : Point
@@ -106,7 +105,7 @@ module _ (o : Outline) (h : Simple o) where
       let v = outline anchor (letters_from sides) in
       let simple = (taken-has written_back.taken).reaches.simple in
       let west = written_back.own v written_back.taken in
-      let taken = ap (λ (u : Verdict). (verdict_fields u).number) written_back.taken.taken in
+      let taken = ap (λ (u : Result Taken Refusal). (verdict_fields u).number) written_back.taken.taken in
       let same : SameCells v (completion_of o) =
       (same-from-w-iff v (completion_of o) simple (complete-simple o h)).1 (west ∙ sym is-written) in
       record {
@@ -143,15 +142,15 @@ completes-size o h v c = ap (λ (u : Outline). size u) (completes-once o v (bord
 -- ---- what a reply says
 
 -- Refused by 1 to 6
-stopped-simple : (o : Outline) {f : Refusal} → survey_of o ≡ Stopped f → Simple o → ⊥
+stopped-simple : (o : Outline) {f : Refusal} → survey_of o ≡ Err f → Simple o → ⊥
 stopped-simple o {f} e h = true≢false (ap passes (survey-passed o h ∙ e))
   where
-    passes : Surveyed → Bool
-    passes (Passed c) = true
-    passes (Stopped g) = false
+    passes : Result Corners Refusal → Bool
+    passes (Ok c) = true
+    passes (Err g) = false
 
 module _ (o : Outline) (buffer : List ℕ) where
-  pub stopped-answers : {f : Refusal} → survey_of o ≡ Stopped f → Answers o buffer buffer (Refused f)
+  pub stopped-answers : {f : Refusal} → survey_of o ≡ Err f → Answers o buffer buffer (Err f)
   unfolding completion_after written_after completed_fields
   stopped-answers {f} e =
       let said = completed-stopped o (length buffer) e in
@@ -169,7 +168,7 @@ module _ (o : Outline) (buffer : List ℕ) where
             };
       }
 
-  pub short-answers : Simple o → length buffer < size (border (completion_of o)) → Answers o buffer buffer (Refused LetterBuffer)
+  pub short-answers : Simple o → length buffer < size (border (completion_of o)) → Answers o buffer buffer (Err LetterBuffer)
   unfolding completion_after written_after completed_fields
   short-answers h l =
       let said = completed-short o (length buffer) h l in
@@ -188,14 +187,14 @@ module _ (o : Outline) (buffer : List ℕ) where
 
   -- The letters at the front of the buffer are the outline's
   pub read_back : (v : Outline) (after : List ℕ) → after ≡ v.letters ++ drop (size v) buffer
-      → outline_in (completed_fields (Written (size v) v.start)) after ≡ v
+      → outline_in (completed_fields (written (size v) v.start)) after ≡ v
   unfolding completed_fields
   read_back v after e = ap (outline v.start) (ap (take (size v)) e ∙ take_at v.letters (drop (size v) buffer) (size v) refl)
 
   pub written-answers :
       (after : List ℕ) → Simple o → size (border (completion_of o)) ≤ length buffer
       → after ≡ (border (completion_of o)).letters ++ drop (size (border (completion_of o))) buffer
-      → Answers o buffer after (Written (size (border (completion_of o))) (border (completion_of o)).start)
+      → Answers o buffer after (written (size (border (completion_of o))) (border (completion_of o)).start)
   unfolding completion_after written_after completed_fields
   written-answers after h l e =
       let said = completed-written o (length buffer) h l in
@@ -216,7 +215,7 @@ module _ (o : Outline) (buffer : List ℕ) where
       }
 
   module _ (h : Simple o) {begins ends : List ℕ} {b t m n : ℕ} (f : HullOf o begins ends b t m n) where
-    pub hull-short : length buffer < n → Answers o buffer buffer (Refused LetterBuffer)
+    pub hull-short : length buffer < n → Answers o buffer buffer (Err LetterBuffer)
     hull-short l = short-answers h (omega (arith, f.count))
 
     pub hull-room : n ≤ length buffer → length (written_from (rows begins) (rows ends) b t m) ≤ length buffer
@@ -225,10 +224,10 @@ module _ (o : Outline) (buffer : List ℕ) where
     pub hull-answers :
         (after : List ℕ) → n ≤ length buffer
         → after ≡ written_from (rows begins) (rows ends) b t m ++ drop (length (written_from (rows begins) (rows ends) b t m)) buffer
-        → Answers o buffer after (Written n (at (rows begins m) m))
+        → Answers o buffer after (written n (at (rows begins m) m))
     hull-answers after l e =
         let w : written_from (rows begins) (rows ends) b t m ≡ (border (completion_of o)).letters =
         ap (λ (v : Outline). v.letters) (sym f.round) in
         let s : at (rows begins m) m ≡ (border (completion_of o)).start = ap (λ (v : Outline). v.start) (sym f.round) in
-        subst (Answers o buffer after) (λ i. Written (sym f.count i) (sym s i))
+        subst (Answers o buffer after) (λ i. written (sym f.count i) (sym s i))
         (written-answers after h (omega (arith, f.count)) (e ∙ ap (λ (u : List ℕ). u ++ drop (length u) buffer) w))

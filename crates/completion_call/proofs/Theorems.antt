@@ -1,5 +1,6 @@
 -- What the contract says about completions (6.6): reply and buffer have the border of
 -- the outline round the hull, and the laws of that outline do the rest.
+use Rattle.std.specs.Prelude.{Result, Ok, Err}
 use Prim.Native.Nat.{ℕ, ◌+◌, ◌-◌, ◌*◌, ◌≤◌, ◌<◌}
 use native.Mathlib.Decide.{dec_lt}
 use native.Mathlib.Omega.{arith}
@@ -10,15 +11,14 @@ use mathlib.Core.List.{List, ◌++◌}
 use lib.ListN.{length, drop}
 use Rattle.chart.specs.Limits.{longest}
 use Rattle.chart.specs.declared.Refusal.{Refusal}
-use Rattle.chart.specs.declared.Verdict.{Verdict}
+use Rattle.chart.specs.declared.Taken.{Taken}
 use Rattle.chart.specs.Outline.{Outline}
 use Rattle.chart.specs.Fields.{verdict_fields}
 use Rattle.lattice.specs.Chart.{size}
 use Rattle.lattice.specs.Hull.{InHull}
 use Rattle.lattice.specs.Refusals.{Simple}
 use Rattle.lattice.proofs.WalkLaws.{walked}
-use Rattle.survey.specs.declared.Surveyed.{Surveyed}
-use Rattle.survey.specs.declared.Surveyed.TheVariants.{Passed, Refused as Stopped}
+use Rattle.survey_walk.specs.declared.Corners.{Corners}
 use Rattle.survey.specs.Survey.{survey_of}
 use Rattle.survey.proofs.SurveyLaws.{survey-simple}
 use Rattle.convexity.specs.Clockwise.{border, block}
@@ -30,8 +30,7 @@ use Rattle.completion.proofs.Extent.{length-border}
 use Rattle.completion.proofs.Columns.{complete-count}
 use Rattle.completion.proofs.Theorem.{complete-simple, complete-shorter, complete-hull, complete-holds, complete-least, complete-own-border}
 use Rattle.completion_call.specs.declared.Completed.{Completed}
-use Rattle.completion_call.specs.declared.Completed.TheVariants.{Written}
-use Rattle.completion_call.specs.Completion.{completed_of, completed_fields, written_after, completion_after}
+use Rattle.completion_call.specs.Completion.{written, completed_of, completed_fields, written_after, completion_after}
 use Rattle.completion_call.specs.Named.{reply_to, replied, Completes}
 use Rattle.completion_call.proofs.CompletedLaws.{stopped-number, completed-stopped, completed-short, completed-written}
 use Rattle.completion_call.proofs.CompletedLaws.{border-completes, read_back}
@@ -39,25 +38,25 @@ use Rattle.completion_call.proofs.CompletedLaws.{border-completes, read_back}
 -- A taken outline passes 1 to 6
 taken-simple : (v : Outline) → (verdict_fields (verdict_of v)).number ≡ 0 → Simple v
 taken-simple v e =
-    ⊎_elim (λ h. h) (λ s. absurd (omega (arith, s.above_zero, e, ap (λ (u : Verdict). (verdict_fields u).number) s.answer))) (simple-or-early v)
+    ⊎_elim (λ h. h) (λ s. absurd (omega (arith, s.above_zero, e, ap (λ (u : Result Taken Refusal). (verdict_fields u).number) s.answer))) (simple-or-early v)
 
 -- The three cases
 data Case (o : Outline) (n : ℕ) : Type 0 where
-  stopped : (f : Refusal) → survey_of o ≡ Stopped f → Case o n
+  stopped : (f : Refusal) → survey_of o ≡ Err f → Case o n
   short : Simple o → n < size (border (completion_of o)) → Case o n
   roomy : Simple o → size (border (completion_of o)) ≤ n → Case o n
 
 case-of : (o : Outline) (n : ℕ) → Case o n
 case-of o n = go (survey_of o) refl
   where
-    go : (s : Surveyed) → survey_of o ≡ s → Case o n
-    go (Stopped f) e = stopped f e
-    go (Passed c) e =
+    go : (s : Result Corners Refusal) → survey_of o ≡ s → Case o n
+    go (Err f) e = stopped f e
+    go (Ok c) e =
         elim (dec_lt n (size (border (completion_of o))))
         [ yes l ↦ short (survey-simple o e) l | no l ↦ roomy (survey-simple o e) (omega arith) ]
 
 module _ (o : Outline) (buffer : List ℕ) where
-  abbrev fields : Completed → ℕ
+  abbrev fields : Result Completed Refusal → ℕ
   fields c = (completed_fields c).number
 
   -- Number 0 means that the outline passes 1 to 6 and that there is room
@@ -75,7 +74,7 @@ module _ (o : Outline) (buffer : List ℕ) where
     pub drawn : Simple o
     drawn = (written-iff.0 done).0
 
-    answered : completed_of o (length buffer) ≡ Written (size (border (completion_of o))) (border (completion_of o)).start
+    answered : completed_of o (length buffer) ≡ written (size (border (completion_of o))) (border (completion_of o)).start
     answered = completed-written o (length buffer) drawn (written-iff.0 done).1
 
     -- The reply and the buffer have the border of the outline round the hull
@@ -112,7 +111,7 @@ module _ (o : Outline) (buffer : List ℕ) where
 
     placed : (reply_to o buffer).place ≡ size (border (completion_of o))
     unfolding completed_fields
-    placed = ap (λ (c : Completed). (completed_fields c).place) answered
+    placed = ap (λ (c : Result Completed Refusal). (completed_fields c).place) answered
 
     -- It has two letters for each column and for each row of the drawing
     pub letters : (reply_to o buffer).place ≡ 2 * (rightmost_corner o - leftmost_corner o) + 2 * (highest_corner o - lowest_corner o)
@@ -144,5 +143,5 @@ twice o buffer again done room =
     let fits : size (border (completion_of v)) ≤ length again =
     omega (arith, ap (λ (u : Outline). size u) same, placed o buffer done, room) in
     let said : completed_of v (length again) ≡ completed_of o (length buffer) =
-    completed-written v (length again) k.simple fits ∙ (λ i. Written (size (same i)) (same i).start) ∙ sym (answered o buffer done) in
+    completed-written v (length again) k.simple fits ∙ (λ i. written (size (same i)) (same i).start) ∙ sym (answered o buffer done) in
     rw (holds-border o buffer done) (ap completed_fields said, holds-border v again ((written-iff v again).1 (k.simple, fits)) ∙ same)

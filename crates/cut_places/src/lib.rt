@@ -16,15 +16,26 @@ fn ahead(n: usize, a: usize, b: usize) -> usize
     if a <= b { b - a } else { n - a + b }
 }
 
-// How many letters lead from place w to place p, read forward or backward.
-fn place_read(n: usize, forward: bool, w: usize, p: usize) -> usize
-    requires { (w ≤ n) × (p ≤ n) }
-    ensures { result ≡ place_read forward n w p }
-{
-    if forward {
-        return ahead(n, w, p);
+// How a list of letters is read: forward or backward, from the place of W on.
+#[derive(Clone, Copy)]
+struct Reading {
+    count: usize,
+    forward: bool,
+    west: usize,
+}
+
+impl Reading {
+    // How many letters lead from W to a place of the list.
+    fn place(self, at: usize) -> usize
+        requires { (self.west ≤ self.count) × (at ≤ self.count) }
+        ensures { result ≡ place_read self.forward self.count self.west at }
+    {
+        if self.forward {
+            ahead(self.count, self.west, at)
+        } else {
+            ahead(self.count, at, self.west)
+        }
     }
-    ahead(n, p, w)
 }
 
 // Whether all four are places of a list of n letters.
@@ -55,9 +66,14 @@ pub fn cut_places(letters: &[u8], found: Corners) -> Cuts
     let west = found.west;
     // Clockwise, the letter that leaves W leads up.
     let forward = letters[west] == 1;
-    let north = place_read(n, forward, west, found.north);
-    let east = place_read(n, forward, west, found.east);
-    let south = place_read(n, forward, west, found.south);
+    let reading = Reading {
+        count: n,
+        forward,
+        west,
+    };
+    let north = reading.place(found.north);
+    let east = reading.place(found.east);
+    let south = reading.place(found.south);
     let first = ahead(n, 0, north);
     let second = first + ahead(n, north, east);
     let third = second + ahead(n, east, south);

@@ -11,16 +11,16 @@ use lib.Seq.{take-nil, drop-drop}
 use lib.IntN.{ℤ}
 use lib.Dec.{ltb}
 use borrow.Author.Tests.{lt-ltb, le-ltb}
+use Rattle.std.specs.Prelude.{Result, Ok, Err, ⊤}
 use Rattle.base.specs.Below.{first}
 use Rattle.base.proofs.BelowLaws.{first_step, first-stop}
+use Rattle.words.specs.Lyndon.{Factor}
 use Rattle.chart.specs.Limits.{longest}
 use Rattle.chart.specs.Outline.{Outline}
 use Rattle.lattice.specs.Chart.{size}
 use Rattle.convexity.specs.Frame.{frame_of}
 use Rattle.convexity.specs.Pieces.{piece, word, factors, dent_at, dent_length, dent_piece, edges_of, edges, edge_count}
-use Rattle.dents.specs.declared.InWord.{InWord}
-use Rattle.dents.specs.declared.InWord.TheVariants.{Edges as WordEdges, Dent as WordDent}
-use Rattle.dents.specs.declared.Factored.TheVariants.{Edges}
+use Rattle.dents.specs.declared.Dent.{Dent}
 use Rattle.pieces.specs.parts.Pieces.{Laid}
 use Rattle.dents.specs.parts.Dents.{factors_in, EdgesPut, DentIn, WordRead, PieceRead, DentRead, FactorsRead}
 use Rattle.pieces.proofs.CutLaws.{cut-le-suc, cut-suc-le, cut-le-cut}
@@ -48,16 +48,30 @@ module _ (l : List ℕ) (from to : ℕ) where
 
 module _ {buffer : List ℕ} {from to k count : ℕ} {before : List ℤ} where
   -- A piece with a letter, and one with none
-  pub piece-part : from < to → to ≤ length buffer → (after : List ℤ) (r : InWord)
-      → WordRead k (take (to - (from + 1)) (drop (from + 1) buffer)) count before after r
-      → PieceRead buffer from to k count before after r
-  piece-part l h after (WordEdges n) t = record { within = refl; word = λ a b c. rw (part-dropped buffer from to l) at t }
-  piece-part l h after (WordDent i m) t =
-      let w : i + m ≤ to - (from + 1) = rw (part_length buffer from to h) at t.within in
-      record { within = (omega arith, t.long); word = λ a b c. rw (part-dropped buffer from to l) at t }
+  pub piece-edges : {n : ℕ} {after : List ℤ} → from < to → EdgesPut k (take (to - (from + 1)) (drop (from + 1) buffer)) count before after n
+      → PieceRead buffer from to k count before after n (Ok tt)
+  piece-edges l t = record { within = refl; word = λ a b c. rw (part-dropped buffer from to l) at t }
+
+  pub piece-dent : {dent : Dent} {n : ℕ} {after : List ℤ} → from < to → to ≤ length buffer
+      → DentIn k (take (to - (from + 1)) (drop (from + 1) buffer)) 0 dent
+      → PieceRead buffer from to k count before after n (Err (record dent { at = from + 1 + dent.at }))
+  piece-dent {dent} l h t =
+      let w : dent.at + dent.length ≤ 0 + (to - (from + 1)) = rw (part_length buffer from to h) at t.within in
+      let u : DentIn k (drop 1 (take (to - from) (drop from buffer))) 0 dent = rw (part-dropped buffer from to l) at t in
+      record {
+        within = (t.piece, omega arith, t.long);
+        word = λ a b c.
+            record {
+              piece = u.piece;
+              within = omega (arith, u.within);
+              long = u.long;
+              at = omega (arith, u.at);
+              size = u.size;
+            };
+      }
 
   pub piece-none : (from < to → to ≤ length buffer → longest ≤ to - (from + 1))
-      → PieceRead buffer from to k count before before (WordEdges count)
+      → PieceRead buffer from to k count before before count (Ok tt)
   piece-none off =
       record {
         within = refl;
@@ -124,23 +138,23 @@ passed_start buffer at before =
     }
 
 -- Piece k lies in the buffer from x up to y, and its factors are found
-pub record Read (buffer at : List ℕ) (before list : List ℤ) (count k x y : ℕ) (after : List ℤ) (r : InWord) : Type 0 where
+pub record Read (buffer at : List ℕ) (before list : List ℤ) (count k x y : ℕ) (after : List ℤ) (more : ℕ) (r : Result ⊤ Dent) : Type 0 where
   pub pieces : Passed buffer at before list count k
   pub piece_lt : k < 4
   pub begins : x ≡ get_or at k 0
   pub ends : y ≡ get_or at (k + 1) 0
   pub kept : length after ≡ length list
-  pub found : PieceRead buffer x y k count list after r
+  pub found : PieceRead buffer x y k count list after more r
 
 module _ {buffer at : List ℕ} {before list : List ℤ} {count k x y : ℕ} {after : List ℤ} where
-  module _ {r : InWord} (p : Read buffer at before list count k x y after r) {o : Outline} (h : Laid o at buffer) where
+  module _ {n : ℕ} {r : Result ⊤ Dent} (p : Read buffer at before list count k x y after n r) {o : Outline} (h : Laid o at buffer) where
     read-factors : factors_in k (drop 1 (take (y - x) (drop x buffer))) ≡ factors o k
     unfolding factors word
     read-factors =
         let letters : take (y - x) (drop x buffer) ≡ piece o k = rw (p.begins, p.ends, add-one) (laid-piece h k p.piece_lt) in
         ap (λ (u : List ℕ). factors_in k (drop 1 u)) letters
 
-    read_word : size o ≤ longest → WordRead k (drop 1 (take (y - x) (drop x buffer))) count list after r
+    read_word : size o ≤ longest → WordRead k (drop 1 (take (y - x) (drop x buffer))) (x + 1) count list after n r
     read_word short =
         let a = p.begins ∙ h.places k (omega (arith, p.piece_lt)) in
         let b = p.ends ∙ ap (λ (i : ℕ). get_or at i 0) (add-one k) ∙ h.places (suc k) p.piece_lt in
@@ -148,7 +162,7 @@ module _ {buffer at : List ℕ} {before list : List ℤ} {count k x y : ℕ} {af
         (omega (arith, cut-suc-le o k))
 
   -- Its edges come after those of the pieces before it
-  module _ {n : ℕ} (p : Read buffer at before list count k x y after (WordEdges n)) where
+  module _ {n : ℕ} (p : Read buffer at before list count k x y after n (Ok tt)) where
     module _ {o : Outline} (short : size o ≤ longest) (h : Laid o at buffer) where
       abbrev put : EdgesPut k (drop 1 (take (y - x) (drop x buffer))) count list after n
       put = read_word p h short
@@ -185,30 +199,34 @@ module _ {buffer at : List ℕ} {before list : List ℤ} {count k x y : ℕ} {af
         }
 
   -- It has the first dent
-  pub passed-dent : {i l : ℕ} → Read buffer at before list count k x y after (WordDent i l) → DentRead buffer at k (x + 1 + i) l
+  pub passed-dent : {dent : Dent} {n : ℕ} → Read buffer at before list count k x y after n (Err dent)
+      → DentRead buffer at dent.piece dent.at dent.length
   unfolding dent_piece
-  passed-dent {i} {l} p =
+  passed-dent {dent} p =
+      let named = p.found.within.0 in
       record {
-        piece_lt = p.piece_lt;
-        at_le = omega (arith, p.found.within.0);
-        size_le = omega (arith, p.found.within.0);
+        piece_lt = omega (arith, named, p.piece_lt);
+        at_le = omega (arith, p.found.within.1);
+        size_le = omega (arith, p.found.within.1);
         dent = λ o short h.
-            let d : DentIn k (drop 1 (take (y - x) (drop x buffer))) i l = read_word p h short in
-            let size : l ≡ dent_length (factors o k) = d.size ∙ ap dent_length (read-factors p h) in
-            let place : i ≡ dent_at (factors o k) = d.at ∙ ap dent_at (read-factors p h) in
-            record {
+            let d : DentIn k (drop 1 (take (y - x) (drop x buffer))) (x + 1) dent = read_word p h short in
+            let size : dent.length ≡ dent_length (factors o k) = d.size ∙ ap dent_length (read-factors p h) in
+            let place : dent.at ≡ x + 1 + dent_at (factors o k) =
+            d.at ∙ ap (λ (fs : List Factor). x + 1 + dent_at fs) (read-factors p h) in
+            rw named
+            (record {
               piece =
                   sym
                   (first-stop (dented o) 4 k (p.pieces.none o short h)
-                  (lt-ltb 0 (dent_length (factors o k)) (omega (arith, p.found.within.1)))
+                  (lt-ltb 0 (dent_length (factors o k)) (omega (arith, p.found.within.2)))
                   p.piece_lt);
               at = omega (arith, p.begins, h.places k (omega (arith, p.piece_lt)));
               size = size;
-            };
+            });
       }
 
 pub passed-end : {buffer at : List ℕ} {before list : List ℤ} {count k : ℕ} → Passed buffer at before list count k → 4 ≤ k
-    → FactorsRead buffer at before list (Edges count)
+    → FactorsRead buffer at before list (Ok count)
 unfolding dent_piece
 passed-end {list = list} {count = count} {k = k} p l o short h =
     let e : k ≡ 4 = omega (arith, p.passed) in

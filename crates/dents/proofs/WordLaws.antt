@@ -1,14 +1,14 @@
 -- At every factor, what is found so far and what the rest of the letters still give make the whole.
-use Prim.Native.Nat.{ℕ, zero, suc, ◌+◌, ◌-◌, ◌*◌, ◌/◌, ◌≤◌, ◌<◌}
+use Prim.Native.Nat.{ℕ, suc, ◌+◌, ◌-◌, ◌*◌, ◌≤◌}
 use native.Mathlib.Nat.{mul-le-mul_left, mul-add}
-use native.Mathlib.Numerals.{add-one}
 use native.Mathlib.Omega.{arith}
 use mathlib.Core.Path.{◌≡◌, refl, sym, ap, ◌∙◌}
 use mathlib.Core.Bool.{true, false}
 use mathlib.Core.List.{List, [], ◌∷◌, ◌++◌, append_assoc, append-nil}
-use lib.ListN.{length, take, drop, set, length-set, drop_of_length-le}
-use lib.Seq.{take-suc-set, drop-drop}
+use lib.ListN.{length, take, drop, drop_of_length-le}
+use lib.Seq.{drop-drop}
 use lib.IntN.{ℤ}
+use Rattle.std.specs.Prelude.{Some}
 use Rattle.words.specs.Word.{word_of, earliers, laters}
 use Rattle.words.specs.Lyndon.{Factor, factors_of}
 use Rattle.words.specs.Christoffel.{christoffel}
@@ -23,23 +23,7 @@ use Rattle.dents.specs.declared.edge.Edge.{Edge}
 use Rattle.dents.specs.parts.Edge.{EdgeOf}
 use Rattle.dents.specs.parts.Dents.{Put, factors_in, Room, EdgesPut, DentIn}
 
--- ---- an edge behind those of a list
-
-two : (n : ℕ) → 2 * (n + 1) ≡ suc (suc (2 * n))
-two n = omega arith
-
-take-two : (l : List ℤ) (n : ℕ) (a b : ℤ) → suc n < length l → take (suc (suc n)) (set (set l n a) (suc n) b) ≡ take n l ++ (a ∷ b ∷ [])
-take-two l n a b h =
-    take-suc-set (set l n a) (suc n) b (simp length-set (omega arith)) ∙
-    ap (λ (x : List ℤ). x ++ (b ∷ [])) (take-suc-set l n a (omega arith)) ∙
-    append_assoc (take n l) (a ∷ []) (b ∷ [])
-
--- A store before a place changes nothing from that place on
-drop-set-before : (l : List ℤ) (i m : ℕ) (a : ℤ) → i < m → drop m (set l i a) ≡ drop m l
-drop-set-before [] i m a h = refl
-drop-set-before (x ∷ l) i zero a h = absurd (omega arith)
-drop-set-before (x ∷ l) zero (suc m) a h = refl
-drop-set-before (x ∷ l) (suc i) (suc m) a h = drop-set-before l i m a (omega arith)
+-- ---- the rest of a list
 
 -- Lists that agree from a place on agree from any later place on
 pub drop-further : (l m : List ℤ) (a b : ℕ) → a ≤ b → drop a l ≡ drop a m → drop b l ≡ drop b m
@@ -47,20 +31,6 @@ drop-further l m a b h e =
     let d : b ≡ a + (b - a) = omega arith in
     ap (λ (n : ℕ). drop n l) d ∙ sym (drop-drop (b - a) a l) ∙ ap (drop (b - a)) e ∙ drop-drop (b - a) a m
     ∙ ap (λ (n : ℕ). drop n m) (sym d)
-
-pub put-behind : (l : List ℤ) (n : ℕ) (dx dy : ℤ) → n < length l / 2 → Put l n dx dy (set (set l (2 * n) dx) (2 * n + 1) dy) (n + 1)
-put-behind l n dx dy h =
-    record {
-      grows = omega arith;
-      one_more = λ room. refl;
-      edges = λ room. rw (two, add-one) (take-two l (2 * n) dx dy (omega arith));
-      beyond = drop-set-before (set l (2 * n) dx) (2 * n + 1) (2 * (n + 1)) dy (omega arith)
-          ∙ drop-set-before l (2 * n) (2 * (n + 1)) dx (omega arith);
-    }
-
-pub put-nowhere : (l : List ℤ) (n : ℕ) (dx dy : ℤ) → length l / 2 ≤ n → Put l n dx dy l n
-put-nowhere l n dx dy h =
-    record { grows = omega arith; one_more = λ room. absurd (omega arith); edges = λ room. absurd (omega arith); beyond = refl }
 
 -- ---- the walk over the factors of letters in the frame of piece k
 
@@ -113,10 +83,9 @@ unfolding edges_of
 edges-cons k f fs g e = rw (e.dx, e.dy)
 
 module _ {k : ℕ} {letters : List ℕ} {from : ℕ} {before list : List ℤ} {count at : ℕ} (t : Tracing k letters from before list count at)
-    (short : length letters ≤ longest) (h : at < length letters)
-    {r : JudgedFactor} (e : r ≡ judged (factors_in k (drop at letters))) where
+    (short : length letters ≤ longest) {r : JudgedFactor} (e : Some r ≡ judged (factors_in k (drop at letters))) where
   pub step : Step letters at (frame_of k).later r
-  step = step-at letters at (frame_of k).later h e
+  step = step-at letters at (frame_of k).later e
 
   pub rise_le : r.times * r.laters ≤ r.times * r.length
   rise_le = mul-le-mul_left r.times step.counted
@@ -144,14 +113,15 @@ module _ {k : ℕ} {letters : List ℕ} {from : ℕ} {before list : List ℤ} {c
       ap (λ (n : ℕ). f.times * n) (sym (earliers-laters f.word)) ∙ mul-add f.times (earliers f.word) (laters f.word) in
       omega (arith, judged-size, judged-rise)
 
-  pub tracing-dent : r.christoffel ≡ false → DentIn k letters at r.length
+  pub tracing-dent : r.christoffel ≡ false → DentIn k letters 0 (record { piece = k; at = at; length = r.length })
   tracing-dent d =
       let no : christoffel step.first.word ≡ false = sym judged-christoffel ∙ d in
       let here : dent_at (factors_in k (drop at letters)) ≡ 0 = ap dent_at step.factors ∙ dent_at-false step.first rest no in
       let long : dent_length (factors_in k (drop at letters)) ≡ length step.first.word =
       ap dent_length step.factors ∙ dent_length-false step.first rest no in
       record {
-        within = step.fits;
+        piece = refl;
+        within = omega (arith, step.fits);
         long = omega (arith, step.above_zero, judged-length);
         at = omega (arith, t.dent-at);
         size = judged-length ∙ sym (t.dent-length ∙ long);

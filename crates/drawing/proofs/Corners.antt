@@ -12,8 +12,7 @@ use Rattle.convexity.proofs.Signed.{reached}
 use Rattle.convexity.proofs.Inside.{IsCell}
 use Rattle.directions.specs.CornerHull.{is_on_chart, Met, start, after, CornersHold}
 use Rattle.directions.proofs.OnChart.{number-on}
-use Rattle.drawing.specs.declared.Stroke.TheVariants.{Line}
-use Rattle.drawing.specs.Drawing.{line_to, lines_from}
+use Rattle.drawing.specs.Drawing.{a_line, line_to, lines_from}
 use Rattle.drawing.specs.Claims.{Cell, cell_of, corners_from, corners, again, InHullOf}
 
 -- ---- a cell of the chart
@@ -21,7 +20,7 @@ use Rattle.drawing.specs.Claims.{Cell, cell_of, corners_from, corners, again, In
 abbrev point : ℤ → ℤ → Point
 point u v = record { col = nat_abs u; row = nat_abs v }
 
-line-cell : {u v : ℤ} → IsCell u v → line_to u v ≡ Line (point u v)
+line-cell : {u v : ℤ} → IsCell u v → line_to u v ≡ a_line (point u v)
 unfolding line_to is_on_chart
 line-cell c = rw (c.col-is, c.row_is, number-on _ c.col-on, number-on _ c.row_on)
 
@@ -40,7 +39,7 @@ ends_from ((dx, dy) ∷ e ∷ es) x y = point (x +ℤ dx) (y +ℤ dy) ∷ ends_f
 abbrev pub Stays : List Edge → ℤ → ℤ → Type 0
 Stays es x y = (u v : ℤ) → Met es x y u v → IsCell u v
 
-pub lines_are : (es : List Edge) (x y : ℤ) → Stays es x y → lines_from es x y ≡ map Line (ends_from es x y)
+pub lines_are : (es : List Edge) (x y : ℤ) → Stays es x y → lines_from es x y ≡ map a_line (ends_from es x y)
 unfolding lines_from ends_from
 lines_are [] x y s = refl
 lines_are (d ∷ []) x y s = refl

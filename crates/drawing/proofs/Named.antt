@@ -9,8 +9,9 @@ use Rattle.chart.specs.declared.Refusal.{Refusal}
 use Rattle.chart.specs.Fields.{refusal_fields}
 use Rattle.chart.proofs.RefusalLaws.{refusal-wordless}
 use Rattle.calls.specs.Replies.{reply_fields, piece_fields, piece_in}
-use Rattle.drawing.specs.declared.Stroke.{Stroke}
-use Rattle.drawing.specs.declared.Stroke.TheVariants.{Move, Line, Close, None}
+use Rattle.std.specs.Prelude.{Some, None}
+use Rattle.drawing.specs.declared.Stroke.TheVariants.{Move, Line, Close}
+use Rattle.drawing.specs.Drawing.{Command}
 use Rattle.drawing.specs.Points.{half, piece_of, cell_in, drawn_reply, point_after}
 use Rattle.drawing.specs.Named.{PieceNamed}
 use Rattle.drawing.proofs.Halves.{half-raised}
@@ -23,10 +24,10 @@ refused-named f l =
     }
 
 -- The cell of the reply has two numbers of 16 bits
-pub drawn-named : (s : Stroke) → (reply_fields (drawn_reply s)).col < 2 ^ 16 → (reply_fields (drawn_reply s)).row < 2 ^ 16 → (l : List Float)
+pub drawn-named : (s : Command) → (reply_fields (drawn_reply s)).col < 2 ^ 16 → (reply_fields (drawn_reply s)).row < 2 ^ 16 → (l : List Float)
     → PieceNamed (reply_fields (drawn_reply s)) l (point_after (piece_in (drawn_reply s)) l)
 unfolding drawn_reply piece_of cell_in reply_fields piece_fields piece_in point_after
-drawn-named (Move a) c r l =
+drawn-named (Some (Move a)) c r l =
     record {
       point = λ w. record {
         x = half a.col;
@@ -37,7 +38,7 @@ drawn-named (Move a) c r l =
       };
       unchanged = λ m n. absurd (m refl);
     }
-drawn-named (Line a) c r l =
+drawn-named (Some (Line a)) c r l =
     record {
       point = λ w. record {
         x = half a.col;
@@ -48,7 +49,7 @@ drawn-named (Line a) c r l =
       };
       unchanged = λ m n. absurd (n refl);
     }
-drawn-named Close c r l =
+drawn-named (Some Close) c r l =
     record { point = λ w. absurd (⊎_elim (λ e. omega (arith, e)) (λ e. omega (arith, e)) w); unchanged = λ m n. refl }
 drawn-named None c r l =
     record { point = λ w. absurd (⊎_elim (λ e. omega (arith, e)) (λ e. omega (arith, e)) w); unchanged = λ m n. refl }

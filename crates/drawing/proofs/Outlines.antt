@@ -21,9 +21,7 @@ use Rattle.convexity.proofs.AsSent.{clear_of, edges-answer-sent}
 use Rattle.directions.proofs.Theorem.{inside-iff-hull}
 use Rattle.directions.proofs.Taken.{taken-passes}
 use Rattle.directions.proofs.Cells.{corner-is-cell}
-use Rattle.drawing.specs.declared.Stroke.{Stroke}
-use Rattle.drawing.specs.declared.Stroke.TheVariants.{Move, Line, Close}
-use Rattle.drawing.specs.Drawing.{drawing}
+use Rattle.drawing.specs.Drawing.{Command, a_move, a_line, a_close, drawing}
 use Rattle.drawing.specs.Claims.{cell_of, corners, again, InHullOf, Draws}
 use Rattle.drawing.proofs.Halves.{half-raised}
 use Rattle.drawing.proofs.Corners.{ends_from, Stays, lines_are, corners-are, met-point, hull-iff}
@@ -45,9 +43,9 @@ module _ (o : Outline) (h : Reaches o) (smooth : dent_piece (border o) ≡ 4) wh
   stays : Stays (pairs es) (pos a.col) (pos a.row)
   stays = corner-is-cell (border o) (clear_of o h)
 
-  drawn : drawing a es ≡ Move a ∷ map Line ends ++ (Close ∷ [])
+  drawn : drawing a es ≡ a_move a ∷ map a_line ends ++ (a_close ∷ [])
   unfolding drawing
-  drawn = ap (λ (ss : List Stroke). Move a ∷ ss ++ (Close ∷ [])) (lines_are (pairs es) (pos a.col) (pos a.row) stays)
+  drawn = ap (λ (ss : List Command). a_move a ∷ ss ++ (a_close ∷ [])) (lines_are (pairs es) (pos a.col) (pos a.row) stays)
 
   met : corners a es ≡ map cell_of (a ∷ ends) ++ again a (pairs es)
   met = let back = edges-return (border o) (shape (border o) (clear_of o h)) in corners-are a (pairs es) stays back.0 back.1

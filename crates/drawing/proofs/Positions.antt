@@ -8,9 +8,8 @@ use lib.Seq.{get_or_at}
 use lib.IntN.{ℤ, pos, ◌+ℤ◌}
 use Rattle.chart.specs.declared.Point.{Point}
 use Rattle.convexity.specs.Edges.{Edge, pairs}
-use Rattle.drawing.specs.declared.Stroke.{Stroke}
-use Rattle.drawing.specs.declared.Stroke.TheVariants.{Move, Close, None}
-use Rattle.drawing.specs.Drawing.{line_to, lines_from, stroke_at}
+use Rattle.std.specs.Prelude.{None}
+use Rattle.drawing.specs.Drawing.{Command, a_move, a_close, line_to, lines_from, stroke_at}
 use Rattle.drawing.specs.Claims.{Cell, cell_of, corners_from, corners}
 use Rattle.drawing.proofs.Walks.{stroke_from, stroke-first, stroke-later}
 
@@ -31,7 +30,7 @@ pub lines-length : (es : List ℤ) (x y : ℤ) → length (lines_from (pairs es)
 lines-length es x y = omega (arith, lines-count (pairs es) x y, pairs-length es)
 
 -- A line to a cell, on the chart or off it
-abbrev pub line_to_cell : Cell → Stroke
+abbrev pub line_to_cell : Cell → Command
 line_to_cell c = line_to c.0 c.1
 
 -- Line n leads to the corner cell reached after n + 1 edges
@@ -45,7 +44,7 @@ lines_at ((dx, dy) ∷ e ∷ es) x y (suc n) c h = lines_at (e ∷ es) (x +ℤ d
 
 module _ (a : Point) (es : List ℤ) where
   -- First the move to the anchor
-  pub position-move : stroke_at a es 0 ≡ Move a
+  pub position-move : stroke_at a es 0 ≡ a_move a
   position-move = stroke-first a es
 
   -- Then, for each edge but the last, a line to the corner cell reached after n edges
@@ -54,18 +53,18 @@ module _ (a : Point) (es : List ℤ) where
   position-line zero l h = absurd (omega arith)
   position-line (suc n) l h =
       stroke-later a es n
-      ∙ get_or-append (lines_from (pairs es) (pos a.col) (pos a.row)) (Close ∷ []) None n
+      ∙ get_or-append (lines_from (pairs es) (pos a.col) (pos a.row)) (a_close ∷ []) None n
       (omega (arith, lines-length es (pos a.col) (pos a.row)))
       ∙ lines_at (pairs es) (pos a.col) (pos a.row) n (cell_of a) (omega (arith, pairs-length es))
 
   -- Then the close: after the last line, or after the move if there is no line
-  pub position-close : stroke_at a es (max 1 (length es / 2)) ≡ Close
+  pub position-close : stroke_at a es (max 1 (length es / 2)) ≡ a_close
   unfolding stroke_from
   position-close =
       let n : max 1 (length es / 2) ≡ suc (length es / 2 - 1) = omega arith in
       ap (stroke_at a es) n
       ∙ stroke-later a es (length es / 2 - 1)
-      ∙ get_or_at (lines_from (pairs es) (pos a.col) (pos a.row)) Close [] None (length es / 2 - 1)
+      ∙ get_or_at (lines_from (pairs es) (pos a.col) (pos a.row)) a_close [] None (length es / 2 - 1)
       (lines-length es (pos a.col) (pos a.row))
 
   -- Then nothing
@@ -74,5 +73,5 @@ module _ (a : Point) (es : List ℤ) where
   position-none zero h = absurd (omega arith)
   position-none (suc n) h =
       stroke-later a es n
-      ∙ get_or-eq_default (lines_from (pairs es) (pos a.col) (pos a.row) ++ (Close ∷ [])) None
+      ∙ get_or-eq_default (lines_from (pairs es) (pos a.col) (pos a.row) ++ (a_close ∷ [])) None
       (simp length-append (omega (arith, lines-length es (pos a.col) (pos a.row))))

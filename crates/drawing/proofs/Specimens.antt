@@ -7,22 +7,21 @@ use lib.Ieee.{fin, add, of_int}
 use Rattle.chart.specs.Outline.{at}
 use Rattle.convexity.specs.Edges.{pairs}
 use Rattle.directions.specs.CornerHull.{chart_number, is_on_chart}
-use Rattle.drawing.specs.declared.Stroke.TheVariants.{Move, Line, Close}
-use Rattle.drawing.specs.Drawing.{line_to, lines_from, drawing}
+use Rattle.drawing.specs.Drawing.{a_move, a_line, a_close, line_to, lines_from, drawing}
 use Rattle.drawing.specs.Points.{half}
 
 -- One cell has no line
-one_cell : drawing (at 0 0) [] ≡ Move (at 0 0) ∷ Close ∷ []
+one_cell : drawing (at 0 0) [] ≡ a_move (at 0 0) ∷ a_close ∷ []
 unfolding drawing pairs lines_from
 one_cell = refl
 
-flat : drawing (at 0 0) (pos 2 ∷ pos 0 ∷ negsuc 1 ∷ pos 0 ∷ []) ≡ Move (at 0 0) ∷ Line (at 2 0) ∷ Close ∷ []
+flat : drawing (at 0 0) (pos 2 ∷ pos 0 ∷ negsuc 1 ∷ pos 0 ∷ []) ≡ a_move (at 0 0) ∷ a_line (at 2 0) ∷ a_close ∷ []
 unfolding drawing pairs lines_from line_to is_on_chart chart_number
 flat = refl
 
 diamond :
     drawing (at 0 1) (pos 1 ∷ pos 1 ∷ pos 1 ∷ negsuc 0 ∷ negsuc 0 ∷ negsuc 0 ∷ negsuc 0 ∷ pos 1 ∷ [])
-    ≡ Move (at 0 1) ∷ Line (at 1 2) ∷ Line (at 2 1) ∷ Line (at 1 0) ∷ Close ∷ []
+    ≡ a_move (at 0 1) ∷ a_line (at 1 2) ∷ a_line (at 2 1) ∷ a_line (at 1 0) ∷ a_close ∷ []
 unfolding drawing pairs lines_from line_to is_on_chart chart_number
 diamond = refl
 

@@ -11,8 +11,7 @@ use Rattle.chart.specs.declared.Point.{Point}
 use Rattle.lattice.specs.Hull.{InTriangle}
 use Rattle.convexity.specs.Edges.{Edge, pairs}
 use Rattle.directions.specs.Increasing.{bad_directions}
-use Rattle.drawing.specs.declared.Stroke.TheVariants.{Move, Line, Close}
-use Rattle.drawing.specs.Drawing.{drawing}
+use Rattle.drawing.specs.Drawing.{a_move, a_line, a_close, drawing}
 use Rattle.drawing.specs.Points.{half}
 
 -- The float x is n raised by one half, exactly. In units of 2 ^ -149 one half is 2 ^ 148
@@ -54,7 +53,7 @@ pub record InHullOf (ps : List Point) (x : Point) : Type 0 where
 pub record Draws (a : Point) (es : List ℤ) (marked : ℕ → ℕ → Bool) : Type 0 where
   -- the cells that the lines lead to. There is one line to each, and nothing else between the move and the close
   pub ends : List Point
-  pub pieces : drawing a es ≡ Move a ∷ map Line ends ++ (Close ∷ [])
+  pub pieces : drawing a es ≡ a_move a ∷ map a_line ends ++ (a_close ∷ [])
   -- the move's cell and these are the corner cells in the order of the walk, without the last, which is the anchor again
   pub met : corners a es ≡ map cell_of (a ∷ ends) ++ again a (pairs es)
   -- they are cells of the chart, and their floats are exact

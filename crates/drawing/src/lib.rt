@@ -5,8 +5,8 @@ ghost use Rattle.std.specs.Prelude.{◌≡◌};
 ghost use Rattle.drawing.specs.Drawing.{line_to, stroke_at};
 ghost use Rattle.drawing.specs.Points.{half as half_of, piece_of, cell_in, drawn_reply, pair_after, point_after};
 
-use calls::{Piece, Reply};
-use chart::Point;
+use calls::{Answer, Piece};
+use chart::{Point, Refusal};
 use edge_walk::Corner;
 
 // One path command, by the cell whose centre is its point.
@@ -15,43 +15,43 @@ pub enum Stroke {
     Move(Point),
     Line(Point),
     Close,
-    // Past the last command.
-    None,
 }
 
 // A line to a cell of the chart, and nothing for a cell off the chart.
-fn line_to(at: Corner) -> Stroke
+#[tactic(auto, unfolding(crate::specs::Drawing::line_to))]
+fn line_to(at: Corner) -> Option<Stroke>
     ensures { result ≡ line_to at.col at.row }
 {
     if edge_walk::on_chart(at) {
-        return Stroke::Line(edge_walk::cell(at));
+        return Some(Stroke::Line(edge_walk::cell(at)));
     }
-    Stroke::None
+    None
 }
 
 // The path command at a position of the drawing of an anchor and a list of edges: a line for each edge but the last, and a close.
-// A position has 16 bits, so the walk to it takes at most 65,535 edges.
-fn stroke_at(anchor: Point, edges: &[i16], position: u16) -> Stroke
+// Past the close there is none.
+// A position has 16 bits, so the walk to it takes at most 65,535 edges. Corner cells are counted from 1 and the last edge is not walked: no
+// plainer over the edges in chunks.
+fn stroke_at(anchor: Point, edges: &[i16], position: u16) -> Option<Stroke>
     ensures { result ≡ stroke_at anchor edges.now position }
 {
     if position == 0 {
-        return Stroke::Move(anchor);
+        return Some(Stroke::Move(anchor));
     }
+    let wanted = usize::from(position);
+    let count = edges.len() / 2;
     let mut at = edge_walk::start(anchor);
-    let mut left = position - 1;
-    let mut i = 0;
-    while i + 3 < edges.len() {
-        at = edge_walk::further(at, edges[i], edges[i + 1]);
-        if left == 0 {
+    for i in 1..count {
+        let k = 2 * i - 2;
+        at = edge_walk::further(at, edges[k], edges[k + 1]);
+        if i == wanted {
             return line_to(at);
         }
-        left -= 1;
-        i += 2;
     }
-    if left == 0 {
-        Stroke::Close
+    if wanted == count.max(1) {
+        Some(Stroke::Close)
     } else {
-        Stroke::None
+        None
     }
 }
 
@@ -71,11 +71,10 @@ fn piece_of(stroke: Stroke) -> Piece
         Stroke::Move(cell) => Piece::Move(half(cell.col), half(cell.row)),
         Stroke::Line(cell) => Piece::Line(half(cell.col), half(cell.row)),
         Stroke::Close => Piece::Close,
-        Stroke::None => Piece::None,
     }
 }
 
-// The cell of a move or a line. Any other command has (0, 0).
+// The cell of a move or a line. A close has (0, 0).
 #[tactic(auto, unfolding(crate::specs::Points::cell_in))]
 fn cell_in(stroke: Stroke) -> Point
     ensures { result ≡ cell_in stroke }
@@ -84,22 +83,28 @@ fn cell_in(stroke: Stroke) -> Point
         Stroke::Move(cell) => cell,
         Stroke::Line(cell) => cell,
         Stroke::Close => Point { col: 0, row: 0 },
-        Stroke::None => Point { col: 0, row: 0 },
     }
 }
 
 // The reply of the piece call for a position: the path command with its point, and the point's cell.
-pub fn drawn_at(anchor: Point, edges: &[i16], position: u16) -> Reply
+#[tactic(auto, unfolding(crate::specs::Points::drawn_reply))]
+pub fn drawn_at(anchor: Point, edges: &[i16], position: u16) -> Result<Answer, Refusal>
     ensures { result ≡ drawn_reply (stroke_at anchor edges.now position) }
 {
-    let found = stroke_at(anchor, edges, position);
-    Reply::Drawn {
-        piece: piece_of(found),
-        cell: cell_in(found),
+    match stroke_at(anchor, edges, position) {
+        Some(stroke) => Ok(Answer::Drawn {
+            piece: Some(piece_of(stroke)),
+            cell: cell_in(stroke),
+        }),
+        None => Ok(Answer::Drawn {
+            piece: None,
+            cell: Point { col: 0, row: 0 },
+        }),
     }
 }
 
-// Writes two numbers to the front of a buffer that has room for them.
+// Writes two numbers to the front of a buffer that has room for them. By the slice pattern `[first, second, ..]` the check loses what the
+// buffer holds after the two stores, so they go by index.
 fn write_pair(x: f32, y: f32, point: &mut [f32])
     ensures { point.new ≡ pair_after x y point.old }
 {
@@ -112,13 +117,13 @@ fn write_pair(x: f32, y: f32, point: &mut [f32])
 
 // Writes the point of a path command to the front of a buffer. A command without a point leaves the buffer unchanged.
 #[tactic(auto, unfolding(crate::specs::Points::point_after))]
-pub fn write_point(piece: Piece, point: &mut [f32])
+pub fn write_point(piece: Option<Piece>, point: &mut [f32])
     ensures { point.new ≡ point_after piece point.old }
 {
     match piece {
-        Piece::Move(x, y) => write_pair(x, y, point),
-        Piece::Line(x, y) => write_pair(x, y, point),
-        Piece::Close => {}
-        Piece::None => {}
+        Some(Piece::Move(x, y)) => write_pair(x, y, point),
+        Some(Piece::Line(x, y)) => write_pair(x, y, point),
+        Some(Piece::Close) => {}
+        None => {}
     }
 }

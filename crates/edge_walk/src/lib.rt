@@ -24,8 +24,8 @@ pub fn start(anchor: Point) -> Corner
     ensures { result ≡ started anchor }
 {
     Corner {
-        col: anchor.col as i32,
-        row: anchor.row as i32,
+        col: i32::from(anchor.col),
+        row: i32::from(anchor.row),
     }
 }
 
@@ -35,19 +35,21 @@ pub fn further(at: Corner, dx: i16, dy: i16) -> Corner
     ensures { result ≡ stepped at dx dy }
 {
     Corner {
-        col: at.col + (dx as i32),
-        row: at.row + (dy as i32),
+        col: at.col + i32::from(dx),
+        row: at.row + i32::from(dy),
     }
 }
 
 // A column or a row of the chart.
+#[tactic(auto, unfolding(directions::specs::CornerHull::chart_number))]
 fn chart_number(z: i32) -> bool
     ensures { result ≡ chart_number z }
 {
-    (0 <= z) & (z <= LAST as i32)
+    (0 <= z) & (z <= i32::from(LAST))
 }
 
 // The corner cell is on the chart.
+#[tactic(auto, unfolding(directions::specs::CornerHull::is_on_chart))]
 pub fn on_chart(at: Corner) -> bool
     ensures { result ≡ is_on_chart at.col at.row }
 {

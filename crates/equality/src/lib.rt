@@ -1,36 +1,29 @@
-// Equality of points and of lists of numbers.
+// Equality of two lists, and of two anchors with their edges.
 #![tactic(auto)]
 
-ghost use Rattle.std.specs.Prelude.{◌≡◌};
-ghost use Rattle.base.specs.Same.{sameℤ, sameℤs};
+ghost use Rattle.std.specs.Prelude.{◌≡◌, ◌&&◌, Decides};
+ghost use Rattle.base.specs.Same.{sameℤs};
 ghost use Rattle.lattice.specs.Chart.{same_point};
 
 use chart::Point;
 
-pub fn same_point(p: Point, q: Point) -> bool
-    ensures { result ≡ same_point p q }
+// The lists are the same. The library's `==` of slices compares in groups, which is 2,000 bytes of code more on a controller for each type.
+// One function over a type that has `==` could promise only what that `==` says, and not that the lists are the same: so there are two.
+pub fn same_bytes(a: &[u8], b: &[u8]) -> bool
+    ensures { Decides result (a.now ≡ b.now) }
 {
-    p.col == q.col && p.row == q.row
-}
-
-fn same_number(a: i16, b: i16) -> bool
-    ensures { result ≡ sameℤ a b }
-{
-    a == b
+    a.len() == b.len() && a.iter().zip(b).all(|(x, y)| x == y)
 }
 
 pub fn same_numbers(a: &[i16], b: &[i16]) -> bool
     ensures { result ≡ sameℤs a.now b.now }
 {
-    if a.len() != b.len() {
-        return false;
-    }
-    let mut i = 0;
-    while i < a.len() {
-        if !same_number(a[i], b[i]) {
-            return false;
-        }
-        i += 1;
-    }
-    true
+    a.len() == b.len() && a.iter().zip(b).all(|(x, y)| x == y)
+}
+
+// The anchors and the edges are the same.
+pub fn same_edges(anchor: Point, edges: &[i16], other: Point, others: &[i16]) -> bool
+    ensures { result ≡ (same_point anchor other && sameℤs edges.now others.now) }
+{
+    anchor == other && same_numbers(edges, others)
 }

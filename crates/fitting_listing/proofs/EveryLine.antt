@@ -7,9 +7,11 @@ use mathlib.Core.Logic.{⊎_elim}
 use mathlib.Core.List.Memᴰ
 use mathlib.Core.List.{List, Memᴰ}
 use lib.ListN.{length, drop}
-use Rattle.fitting_records.specs.declared.Found.{Found}
-use Rattle.fitting_records.specs.declared.Found.TheVariants.{End, WrongMark, Truncated, Record}
-use Rattle.fitting_records.specs.Found.{found_in, width}
+use Rattle.std.specs.Prelude.{Option, Some, None, Result, Ok, Err}
+use Rattle.fitting_records.specs.declared.Record.{Record}
+use Rattle.fitting_records.specs.declared.Fault.{Fault}
+use Rattle.fitting_records.specs.declared.Fault.TheVariants.{WrongMark, Truncated}
+use Rattle.fitting_records.specs.Found.{whole, found_in, width}
 use Rattle.text_lines.specs.declared.Line.{Line}
 use Rattle.fitting_listing.specs.Faults as faults
 use Rattle.fitting_listing.specs.Lines.{most, line, tested_line, outline_in, listed, lines_from, lines_at, lines_of}
@@ -17,17 +19,17 @@ use Rattle.fitting_listing.proofs.LinesLaws.{lines_long, lines-read}
 
 -- P is the property of the lines, and Q a property of the remaining bytes
 module _ (Q : List ℕ → Type 0) (P : Line → Type 0) (further : (j : ℕ) (w : List ℕ) → Q w → Q (drop j w))
-    (tested : (n c r m : ℕ) (w : List ℕ) → Q w → found_in w ≡ Record c r m → P (tested_line n (outline_in c r m w)))
+    (tested : (n c r m : ℕ) (w : List ℕ) → Q w → found_in w ≡ whole c r m → P (tested_line n (outline_in c r m w)))
     (wrong : (n at : ℕ) → P (line n faults.wrong_mark at)) (cut : (n at : ℕ)
     → P (line n faults.truncated at)) (long : P (line 0 faults.too_long most)) where
-  listed-all : (n at : ℕ) (w : List ℕ) (f : Found) (rest : List Line) → Q w → found_in w ≡ f → ((l : Line) → Memᴰ l rest → P l)
+  listed-all : (n at : ℕ) (w : List ℕ) (f : Result (Option Record) Fault) (rest : List Line) → Q w → found_in w ≡ f → ((l : Line) → Memᴰ l rest → P l)
       → (l : Line) → Memᴰ l (listed n at w f rest) → P l
   unfolding listed
-  listed-all n at w End rest q e all l m = absurd (Memᴰ.not-nil m)
-  listed-all n at w WrongMark rest q e all l m = rw (Memᴰ.eq_of_singleton m) (wrong n at)
-  listed-all n at w Truncated rest q e all l m = rw (Memᴰ.eq_of_singleton m) (cut n at)
-  listed-all n at w (Record c r k) rest q e all l m =
-      ⊎_elim (λ same. rw same (tested n c r k w q e)) (λ later. all l later) (Memᴰ.cases_cons m)
+  listed-all n at w (Ok None) rest q e all l m = absurd (Memᴰ.not-nil m)
+  listed-all n at w (Err WrongMark) rest q e all l m = rw (Memᴰ.eq_of_singleton m) (wrong n at)
+  listed-all n at w (Err Truncated) rest q e all l m = rw (Memᴰ.eq_of_singleton m) (cut n at)
+  listed-all n at w (Ok (Some r)) rest q e all l m =
+      ⊎_elim (λ same. rw same (tested n r.col r.row r.count w q e)) (λ later. all l later) (Memᴰ.cases_cons m)
 
   lines-all : (k n at : ℕ) (w : List ℕ) → Q w → (l : Line) → Memᴰ l (lines_from k n at w) → P l
   unfolding lines_from

@@ -8,8 +8,7 @@ use lib.ListN.{length, length-append}
 use lib.Seq.{take-append_seam, drop_at}
 use borrow.Author.Tests.{le-leb}
 use Rattle.chart.specs.Outline.{Outline}
-use Rattle.fitting_records.specs.declared.Found.TheVariants.{Record}
-use Rattle.fitting_records.specs.Found.{header, wide, marked, after_mark, found_in}
+use Rattle.fitting_records.specs.Found.{header, wide, whole, marked, after_mark, found_in}
 use Rattle.fitting_listing.specs.Lines.{most, tested_line, outline_in, lines_at, lines_of}
 use Rattle.fitting_listing.specs.Bytes.{bytes_of, file_of, tested_from}
 use Rattle.fitting_listing.proofs.LinesLaws.{lines-record, lines-found-end, lines-read}
@@ -17,7 +16,7 @@ use Rattle.fitting_listing.proofs.LinesLaws.{lines-record, lines-found-end, line
 counted : (n : ℕ) → wide (n % 256) (n / 256) ≡ n
 counted n = omega (arith, div-add-mod n 256)
 
-pub found-record : (o : Outline) (w : List ℕ) → found_in (bytes_of o ++ w) ≡ Record o.start.col o.start.row (length o.letters)
+pub found-record : (o : Outline) (w : List ℕ) → found_in (bytes_of o ++ w) ≡ whole o.start.col o.start.row (length o.letters)
 unfolding bytes_of found_in marked after_mark
 found-record o w =
     let n = length o.letters in

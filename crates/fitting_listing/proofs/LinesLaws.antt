@@ -7,21 +7,23 @@ use mathlib.Core.List.{List, [], ◌∷◌}
 use lib.ListN.{length, take, drop, length-drop}
 use lib.Seq.{take_all, length-take-le}
 use borrow.Author.Tests.{lt-ltb, le-ltb}
-use Rattle.fitting_records.specs.declared.Found.{Found}
-use Rattle.fitting_records.specs.declared.Found.TheVariants.{End, WrongMark, Truncated, Record}
-use Rattle.fitting_records.specs.Found.{header, found_in, width}
+use Rattle.std.specs.Prelude.{Option, Some, None, Result, Ok, Err}
+use Rattle.fitting_records.specs.declared.Record.{Record}
+use Rattle.fitting_records.specs.declared.Fault.{Fault}
+use Rattle.fitting_records.specs.declared.Fault.TheVariants.{WrongMark, Truncated}
+use Rattle.fitting_records.specs.Found.{header, whole, found_in, width}
 use Rattle.fitting_records.proofs.RecordLaws.{found_within}
 use Rattle.text_lines.specs.declared.Line.{Line}
 use Rattle.fitting_listing.specs.Faults as faults
 use Rattle.fitting_listing.specs.Lines.{most, line, tested_line, outline_in, listed, lines_from, lines_at, lines_of}
 
 -- The lines after a record matter only if there is a record
-listed_same : (n at : ℕ) (w : List ℕ) (f : Found) (p q : List Line) → (0 < width f → p ≡ q) → listed n at w f p ≡ listed n at w f q
+listed_same : (n at : ℕ) (w : List ℕ) (f : Result (Option Record) Fault) (p q : List Line) → (0 < width f → p ≡ q) → listed n at w f p ≡ listed n at w f q
 unfolding listed width
-listed_same n at w End p q h = refl
-listed_same n at w WrongMark p q h = refl
-listed_same n at w Truncated p q h = refl
-listed_same n at w (Record c r m) p q h = ap (λ (ls : List Line). tested_line n (outline_in c r m w) ∷ ls) (h (omega arith))
+listed_same n at w (Ok None) p q h = refl
+listed_same n at w (Err WrongMark) p q h = refl
+listed_same n at w (Err Truncated) p q h = refl
+listed_same n at w (Ok (Some r)) p q h = ap (λ (ls : List Line). tested_line n (outline_in r.col r.row r.count w) ∷ ls) (h (omega arith))
 
 -- A bound that is no less than the bytes
 pub lines-enough : (k j n at : ℕ) (w : List ℕ) → length w ≤ k → length w ≤ j → lines_from k n at w ≡ lines_from j n at w
@@ -49,19 +51,19 @@ lines_step n at (b ∷ w) =
     lines-enough (length w) (length rest) (n + 1) (at + width found) rest less (omega arith))
 
 -- One law for each thing that bytes may begin with
-pub lines-found-end : (n at : ℕ) (w : List ℕ) → found_in w ≡ End → lines_at n at w ≡ []
+pub lines-found-end : (n at : ℕ) (w : List ℕ) → found_in w ≡ Ok None → lines_at n at w ≡ []
 unfolding listed
 lines-found-end n at w e = lines_step n at w ∙ rw e refl
 
-pub lines-wrong-mark : (n at : ℕ) (w : List ℕ) → found_in w ≡ WrongMark → lines_at n at w ≡ line n faults.wrong_mark at ∷ []
+pub lines-wrong-mark : (n at : ℕ) (w : List ℕ) → found_in w ≡ Err WrongMark → lines_at n at w ≡ line n faults.wrong_mark at ∷ []
 unfolding listed
 lines-wrong-mark n at w e = lines_step n at w ∙ rw e refl
 
-pub lines_cut : (n at : ℕ) (w : List ℕ) → found_in w ≡ Truncated → lines_at n at w ≡ line n faults.truncated at ∷ []
+pub lines_cut : (n at : ℕ) (w : List ℕ) → found_in w ≡ Err Truncated → lines_at n at w ≡ line n faults.truncated at ∷ []
 unfolding listed
 lines_cut n at w e = lines_step n at w ∙ rw e refl
 
-pub lines-record : (n at c r m : ℕ) (w : List ℕ) → found_in w ≡ Record c r m
+pub lines-record : (n at c r m : ℕ) (w : List ℕ) → found_in w ≡ whole c r m
     → lines_at n at w ≡ tested_line n (outline_in c r m w) ∷ lines_at (n + 1) (at + (header + m)) (drop (header + m) w)
 unfolding listed width
 lines-record n at c r m w e = lines_step n at w ∙ rw e refl

@@ -12,7 +12,8 @@ use Rattle.text_lines.specs.Written.{over, written_at, end_at, Wrote}
 use Rattle.text_lines.proofs.WrittenLaws.{length-written, written_behind, written_none}
 use Rattle.text_lines.proofs.TextLaws.{line-short}
 use Rattle.chart.specs.Outline.{Outline, outline}
-use Rattle.fitting_records.specs.declared.Found.TheVariants.{End, WrongMark, Truncated}
+use Rattle.std.specs.Prelude.{None, Ok, Err}
+use Rattle.fitting_records.specs.declared.Fault.TheVariants.{WrongMark, Truncated}
 use Rattle.fitting_records.specs.Found.{header, found_at}
 use Rattle.fitting_records.proofs.RecordLaws.{Passed}
 use Rattle.fitting_listing.specs.Faults as faults
@@ -67,7 +68,7 @@ module _ {file buffer text : List ℕ} {at n end : ℕ} (g : Going file buffer t
   going-stops : lines_at n at (drop at file) ≡ [] → Listed (lines_at 0 0 file) buffer text end
   going-stops e = making-ends (rw e at g.making) (omega (arith, g.within, g.records))
 
-  pub going_end : found_at file at ≡ End → Listed (lines_at 0 0 file) buffer text end
+  pub going_end : found_at file at ≡ Ok None → Listed (lines_at 0 0 file) buffer text end
   going_end e = going-stops (lines-found-end n at (drop at file) e)
 
   going-last : {l : Line} {text' : List ℕ} {r : ℕ} → lines_at n at (drop at file) ≡ l ∷ [] → length (line_text l) ≤ 18
@@ -77,12 +78,12 @@ module _ {file buffer text : List ℕ} {at n end : ℕ} (g : Going file buffer t
   fault-short : (a : ℕ) → a < 100000 → length (line_text (line n a at)) ≤ 18
   fault-short a h = line-short (line n a at) (omega (arith, g.within, g.records)) h (omega (arith, g.within))
 
-  pub going-wrong-mark : {text' : List ℕ} {r : ℕ} → found_at file at ≡ WrongMark
+  pub going-wrong-mark : {text' : List ℕ} {r : ℕ} → found_at file at ≡ Err WrongMark
       → Wrote (line_text (line n faults.wrong_mark at)) end text text' r
       → Listed (lines_at 0 0 file) buffer text' r
   going-wrong-mark e = going-last (lines-wrong-mark n at (drop at file) e) (fault-short faults.wrong_mark (lit< tt))
 
-  pub going-cut : {text' : List ℕ} {r : ℕ} → found_at file at ≡ Truncated → Wrote (line_text (line n faults.truncated at)) end text text' r
+  pub going-cut : {text' : List ℕ} {r : ℕ} → found_at file at ≡ Err Truncated → Wrote (line_text (line n faults.truncated at)) end text text' r
       → Listed (lines_at 0 0 file) buffer text' r
   going-cut e = going-last (lines_cut n at (drop at file) e) (fault-short faults.truncated (lit< tt))
 

@@ -10,8 +10,10 @@ use Rattle.chart.specs.Limits.{most_numbers}
 use Rattle.chart.specs.Outline.{Outline}
 use Rattle.verdict.specs.Verdict.{test_fields}
 use Rattle.verdict.proofs.Numbers.{tested-number}
-use Rattle.fitting_records.specs.declared.Found.{Found}
-use Rattle.fitting_records.specs.declared.Found.TheVariants.{End, WrongMark, Truncated, Record}
+use Rattle.std.specs.Prelude.{Option, Some, None, Result, Ok, Err}
+use Rattle.fitting_records.specs.declared.Record.{Record}
+use Rattle.fitting_records.specs.declared.Fault.{Fault}
+use Rattle.fitting_records.specs.declared.Fault.TheVariants.{WrongMark, Truncated}
 use Rattle.fitting_records.specs.Found.{found_in, width}
 use Rattle.text_lines.specs.declared.Line.{Line}
 use Rattle.fitting_listing.specs.Faults as faults
@@ -27,13 +29,13 @@ module _ (n p : ℕ) where
   unfolding tested_line moved_line
   tested-moved i o = rw (no-fault o)
 
-  listed-moved : (i at : ℕ) (w : List ℕ) (f : Found) (ls : List Line)
+  listed-moved : (i at : ℕ) (w : List ℕ) (f : Result (Option Record) Fault) (ls : List Line)
       → listed (n + i) (p + at) w f (map (moved_line n p) ls) ≡ map (moved_line n p) (listed i at w f ls)
   unfolding listed moved_line
-  listed-moved i at w End ls = refl
-  listed-moved i at w WrongMark ls = refl
-  listed-moved i at w Truncated ls = refl
-  listed-moved i at w (Record c r m) ls = rw (tested-moved i (outline_in c r m w))
+  listed-moved i at w (Ok None) ls = refl
+  listed-moved i at w (Err WrongMark) ls = refl
+  listed-moved i at w (Err Truncated) ls = refl
+  listed-moved i at w (Ok (Some r)) ls = rw (tested-moved i (outline_in r.col r.row r.count w))
 
   lines-moved : (k i at : ℕ) (w : List ℕ) → lines_from k (n + i) (p + at) w ≡ map (moved_line n p) (lines_from k i at w)
   unfolding lines_from

@@ -10,8 +10,9 @@ use lib.ListN.{length, get_or, take, drop, take-append-drop, length-drop}
 use lib.Seq.{length-take-le, get_or-drop, drop-drop}
 use lib.Dec.{lit<}
 use Rattle.chart.specs.Outline.{Outline}
-use Rattle.fitting_records.specs.declared.Found.{Found}
-use Rattle.fitting_records.specs.declared.Found.TheVariants.{End, WrongMark, Truncated, Record}
+use Rattle.std.specs.Prelude.{Option, Some, None, Result, Ok, Err}
+use Rattle.fitting_records.specs.declared.Record.{Record}
+use Rattle.fitting_records.specs.declared.Fault.{Fault}
 use Rattle.fitting_records.specs.Found.{header, wide, found_in, width}
 use Rattle.fitting_records.proofs.RecordLaws.{Stands, no_record, record-stands, record-within}
 use Rattle.fitting_listing.specs.Lines.{outline_in}
@@ -72,22 +73,25 @@ unfolding width
 apart zero w h b = absurd (omega arith)
 apart (suc k) w h b = go (found_in w) refl (apart k)
   where
-    go : (f : Found) → found_in w ≡ f → ((v : List ℕ) → length v < k → AllBytes v → Apart v) → Apart w
-    go End e shorter = nothing-whole w (ap width e)
-    go WrongMark e shorter = nothing-whole w (ap width e)
-    go Truncated e shorter = nothing-whole w (ap width e)
-    go (Record c r m) e shorter =
+    go : (f : Result (Option Record) Fault) → found_in w ≡ f → ((v : List ℕ) → length v < k → AllBytes v → Apart v) → Apart w
+    go (Ok None) e shorter = nothing-whole w (ap width e)
+    go (Err f) e shorter = nothing-whole w (ap width e)
+    go (Ok (Some r)) e shorter =
         let s = record-stands w e in
-        one_more (outline_in c r m w) (record-bytes b s) (record-storable b s)
+        let m = r.count in
+        one_more (outline_in r.col r.row m w) (record-bytes b s) (record-storable b s)
         (shorter (drop (header + m) w) (simp length-drop (omega (arith, record-within w e))) (bytes-further (header + m) w b))
 
 -- The bytes at the front of a file determine the first outline, and so what follows it
 same-front : (o u : Outline) (v w : List ℕ) → bytes_of o ++ v ≡ bytes_of u ++ w → (o ≡ u) × (v ≡ w)
 same-front o u v w e =
     let found = sym (found-record o v) ∙ ap found_in e ∙ found-record u w in
-    let col : o.start.col ≡ u.start.col = cc in
-    let row : o.start.row ≡ u.start.row = cc in
-    let count : length o.letters ≡ length u.letters = cc in
+    let first : Record = record { col = o.start.col; row = o.start.row; count = length o.letters } in
+    let second : Record = record { col = u.start.col; row = u.start.row; count = length u.letters } in
+    let alike : first ≡ second = cc in
+    let col : o.start.col ≡ u.start.col = ap (λ (x : Record). x.col) alike in
+    let row : o.start.row ≡ u.start.row = ap (λ (x : Record). x.row) alike in
+    let count : length o.letters ≡ length u.letters = ap (λ (x : Record). x.count) alike in
     let same : o ≡ u = sym (same-outline o v) ∙ rw (e, col, row, count) (same-outline u w) in
     (same, append_cancel_left (bytes_of u) v w (rw same at e))
 

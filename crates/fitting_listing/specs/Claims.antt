@@ -2,8 +2,7 @@
 use Rattle.std.specs.Prelude.{ℕ, ◌+◌, ◌<◌, ◌≡◌, cond, length, get_or, leb}
 use mathlib.Core.List.{List, [], ◌∷◌, ◌++◌, Memᴰ}
 use Rattle.chart.specs.Outline.{Outline}
-use Rattle.fitting_records.specs.declared.Found.TheVariants.{Record}
-use Rattle.fitting_records.specs.Found.{found_in}
+use Rattle.fitting_records.specs.Found.{whole, found_in}
 use Rattle.text_lines.specs.declared.Line.{Line}
 use Rattle.fitting_listing.specs.Faults as faults
 use Rattle.fitting_listing.specs.Lines.{line}
@@ -25,7 +24,7 @@ pub record Storable (o : Outline) : Type 0 where
 
 -- The bytes do not begin with a whole record: there are none, or they are a fault
 abbrev pub NoRecord : List ℕ → Type 0
-NoRecord w = (c r count : ℕ) → found_in w ≡ Record c r count → ⊥
+NoRecord w = (c r count : ℕ) → found_in w ≡ whole c r count → ⊥
 
 -- The parts of a file: whole records, and a rest that does not begin with one
 pub record Parts (file : List ℕ) (os : List Outline) (rest : List ℕ) : Type 0 where

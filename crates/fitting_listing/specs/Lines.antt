@@ -1,10 +1,11 @@
 -- The lines of a fitting file: one for each whole record, and one for a fault, which is the last (contract 11.2 and 11.3).
-use Rattle.std.specs.Prelude.{ℕ, zero, suc, ◌+◌, cond, List, [], ◌∷◌, length, take, drop, ltb}
+use Rattle.std.specs.Prelude.{ℕ, zero, suc, ◌+◌, cond, List, [], ◌∷◌, length, take, drop, ltb, Option, Some, None, Result, Ok, Err}
 use Rattle.chart.specs.Limits.{most_numbers}
 use Rattle.chart.specs.Outline.{Outline, outline}
 use Rattle.verdict.specs.Verdict.{test_fields}
-use Rattle.fitting_records.specs.declared.Found.{Found}
-use Rattle.fitting_records.specs.declared.Found.TheVariants.{End, WrongMark, Truncated, Record}
+use Rattle.fitting_records.specs.declared.Record.{Record}
+use Rattle.fitting_records.specs.declared.Fault.{Fault}
+use Rattle.fitting_records.specs.declared.Fault.TheVariants.{WrongMark, Truncated}
 use Rattle.fitting_records.specs.Found.{header, found_in, width}
 use Rattle.text_lines.specs.declared.Line.{Line}
 use Rattle.fitting_listing.specs.Faults as faults
@@ -26,11 +27,11 @@ unfoldable pub outline_in : ℕ → ℕ → ℕ → List ℕ → Outline
 outline_in c r count w = outline (record { col = c; row = r }) (take count (drop header w))
 
 -- The lines from record n on, where the bytes w begin at a position of the file. The last argument is the lines after a whole record
-unfoldable pub listed : ℕ → ℕ → List ℕ → Found → List Line → List Line
-listed n at w End rest = []
-listed n at w WrongMark rest = line n faults.wrong_mark at ∷ []
-listed n at w Truncated rest = line n faults.truncated at ∷ []
-listed n at w (Record c r count) rest = tested_line n (outline_in c r count w) ∷ rest
+unfoldable pub listed : ℕ → ℕ → List ℕ → Result (Option Record) Fault → List Line → List Line
+listed n at w (Ok None) rest = []
+listed n at w (Err WrongMark) rest = line n faults.wrong_mark at ∷ []
+listed n at w (Err Truncated) rest = line n faults.truncated at ∷ []
+listed n at w (Ok (Some r)) rest = tested_line n (outline_in r.col r.row r.count w) ∷ rest
 
 -- The lines of the bytes w, at most k
 unfoldable pub lines_from : ℕ → ℕ → ℕ → List ℕ → List Line

@@ -6,9 +6,8 @@ ghost use Rattle.chart.specs.Outline.{outline};
 ghost use Rattle.fitting_listing.specs.Lines.{most, line as line_of, tested_line, lines_at, lines_of};
 ghost use Rattle.fitting_listing.specs.Listed.{Small, Listed};
 
-use chart::reply::of_verdict;
-use chart::{MOST_NUMBERS, Point};
-use fitting_records::{Found, HEADER, next_at};
+use chart::{Fields, MOST_NUMBERS, Point};
+use fitting_records::{Fault, HEADER, next_at};
 use text_lines::{Line, put_line};
 
 // A file has at most this many bytes.
@@ -42,14 +41,14 @@ fn tested(number: usize, col: u8, row: u8, letters: &[u8]) -> Line
 {
     let mut edges = [0i16; MOST_NUMBERS];
     let start = Point {
-        col: col as u16,
-        row: row as u16,
+        col: u16::from(col),
+        row: u16::from(row),
     };
-    let fields = of_verdict(outline::test(start, letters, &mut edges));
+    let fields = Fields::from(outline::test(start, letters, &mut edges));
     Line {
         number,
-        answer: fields.number as usize,
-        place: fields.place as usize,
+        answer: usize::from(fields.number),
+        place: usize::from(fields.place),
     }
 }
 
@@ -64,14 +63,13 @@ fn list_records(file: &[u8], text: &mut [u8]) -> usize
     loop {
         let letters = at + HEADER;
         let step = next_at(file, at);
-        let found = step.found;
-        match found {
-            Found::End => return end,
-            Found::WrongMark => return put_line(fault(number, WRONG_MARK, at), text, end),
-            Found::Truncated => return put_line(fault(number, TRUNCATED, at), text, end),
-            Found::Record { col, row, count: _ } => {
+        match step.found {
+            Ok(None) => return end,
+            Err(Fault::WrongMark) => return put_line(fault(number, WRONG_MARK, at), text, end),
+            Err(Fault::Truncated) => return put_line(fault(number, TRUNCATED, at), text, end),
+            Ok(Some(record)) => {
                 let next = step.next;
-                let line = tested(number, col, row, &file[letters..next]);
+                let line = tested(number, record.col, record.row, &file[letters..next]);
                 end = put_line(line, text, end);
                 at = next;
                 number += 1;

@@ -1,8 +1,8 @@
 // The records of a fitting file, and a reader that steps from one to the next (contract 11).
 #![tactic(auto)]
 
-ghost use Rattle.std.specs.Prelude.{◌≡◌, ◌<◌, ◌≤◌, length, drop};
-ghost use Rattle.fitting_records.specs.Found.{wide as wide_of, marked as marked_of, after_mark, found_at, step_at};
+ghost use Rattle.std.specs.Prelude.{◌≡◌, ◌<◌, ◌^◌};
+ghost use Rattle.fitting_records.specs.Found.{after_mark, found_in, found_at, width as width_of, step_at};
 
 // A record begins with a mark of two bytes (contract 11.1).
 const FIRST: u8 = 0x4B;
@@ -12,23 +12,27 @@ const SECOND: u8 = 0x4F;
 // The bytes of a record before its letters: the mark, the column and the row of the start, and two bytes for the count of letters.
 pub const HEADER: usize = 6;
 
-// What stands at a position of a file.
+// What is wrong at a position of a file.
 #[derive(Clone, Copy)]
-pub enum Found {
-    // Nothing is left.
-    End,
+pub enum Fault {
     // Fault 23: a wrong mark, or a single byte.
     WrongMark,
     // Fault 24: a record that is truncated after its mark.
     Truncated,
-    // A whole record: its start, and the count of its letters.
-    Record { col: u8, row: u8, count: usize },
 }
 
-// A step of a reader: what stands at its position, and where the next record begins.
+// A whole record: its start, and the count of its letters.
+#[derive(Clone, Copy)]
+pub struct Record {
+    pub col: u8,
+    pub row: u8,
+    pub count: usize,
+}
+
+// A step of a reader: the record at its position, or none where nothing is left, and where the next record begins.
 #[derive(Clone, Copy)]
 pub struct Step {
-    pub found: Found,
+    pub found: Result<Option<Record>, Fault>,
     pub next: usize,
 }
 
@@ -39,96 +43,83 @@ pub struct Reader<'a> {
     pub at: usize,
 }
 
-// A 16-bit number, low byte first.
-fn wide(low: u8, high: u8) -> usize
-    ensures { result ≡ wide_of low high }
+// The record whose rest stands after a mark, or the fault of a truncated one. Its count of letters is stored low byte first.
+fn after_mark(bytes: &[u8]) -> Result<Option<Record>, Fault>
+    ensures { result ≡ after_mark bytes.now }
 {
-    low as usize + 256 * (high as usize)
+    match bytes {
+        [col, row, low, high, letters @ ..] => {
+            let count = usize::from(u16::from_le_bytes([*low, *high]));
+            if letters.len() < count {
+                return Err(Fault::Truncated);
+            }
+            Ok(Some(Record {
+                col: *col,
+                row: *row,
+                count,
+            }))
+        }
+        _ => Err(Fault::Truncated),
+    }
 }
 
-// Whether a whole mark stands at a position.
-fn is_marked(file: &[u8], at: usize) -> bool
-    requires { at < length file.now }
-    ensures { result ≡ marked_of (drop at file.now) }
+// The record that the bytes begin with, or none where there are no bytes.
+fn found_in(bytes: &[u8]) -> Result<Option<Record>, Fault>
+    ensures { result ≡ found_in bytes.now }
 {
-    if file.len() - at < 2 {
-        return false;
+    match bytes {
+        [] => Ok(None),
+        [FIRST, SECOND, rest @ ..] => after_mark(rest),
+        _ => Err(Fault::WrongMark),
     }
-    let first = file[at];
-    let second = file[at + 1];
-    first == FIRST && second == SECOND
 }
 
-// What stands after a mark: the rest of a whole record, or of a truncated one.
-fn after_mark(file: &[u8], at: usize) -> Found
-    requires { at ≤ length file.now }
-    ensures { result ≡ after_mark (drop at file.now) }
+// How many bytes a step reads: those of a whole record, and none at the end or at a fault.
+#[tactic(auto, unfolding(crate::specs::Found::width))]
+fn width(found: Result<Option<Record>, Fault>) -> usize
+    requires { width_of found < 2 ^ 64 }
+    ensures { result ≡ width_of found }
 {
-    let left = file.len() - at;
-    if left < 4 {
-        return Found::Truncated;
+    match found {
+        Ok(Some(record)) => HEADER + record.count,
+        Ok(None) => 0,
+        Err(_) => 0,
     }
-    let col = file[at];
-    let row = file[at + 1];
-    let low = file[at + 2];
-    let high = file[at + 3];
-    let count = wide(low, high);
-    if left - 4 < count {
-        return Found::Truncated;
-    }
-    Found::Record { col, row, count }
 }
 
-// What stands at a position of a file.
-fn found_at(file: &[u8], at: usize) -> Found
-    ensures { result ≡ found_at file.now at }
-{
-    if file.len() <= at {
-        return Found::End;
-    }
-    if !is_marked(file, at) {
-        return Found::WrongMark;
-    }
-    after_mark(file, at + 2)
-}
-
-// One step from a position of a file. At the end and at a fault the position stays.
-fn step_at(file: &[u8], at: usize) -> Step
-    ensures { result ≡ step_at file.now at }
-{
-    let found = found_at(file, at);
-    if let Found::Record {
-        col: _,
-        row: _,
-        count,
-    } = found
+impl<'a> Reader<'a> {
+    // A reader at a position of a file.
+    pub fn new(file: &'a [u8], at: usize) -> Reader<'a>
+        ensures { (result.file ≡ file.entry) × (result.at ≡ at) }
     {
-        let letters = at + HEADER;
-        return Step {
-            found,
-            next: letters + count,
-        };
+        Reader { file, at }
     }
-    Step { found, next: at }
-}
 
-// A reader at a position of a file.
-pub fn new<'a>(file: &'a [u8], at: usize) -> Reader<'a>
-    ensures { (result.file ≡ file.entry) × (result.at ≡ at) }
-{
-    Reader { file, at }
-}
+    // The record at the position, or none where nothing is left.
+    fn found(self) -> Result<Option<Record>, Fault>
+        ensures { result ≡ found_at self.entry.file.now self.entry.at }
+    {
+        if self.file.len() <= self.at {
+            return Ok(None);
+        }
+        found_in(&self.file[self.at..])
+    }
 
-// The next step of a reader.
-pub fn next<'a>(r: Reader<'a>) -> Step
-    ensures { result ≡ step_at r.entry.file.now r.entry.at }
-{
-    step_at(r.file, r.at)
+    // The next step. At the end and at a fault the position stays.
+    pub fn next(self) -> Step
+        ensures { result ≡ step_at self.entry.file.now self.entry.at }
+    {
+        let found = self.found();
+        Step {
+            found,
+            next: self.at + width(found),
+        }
+    }
 }
 
 // The next step of a reader of a file, from a position on.
 pub fn next_at(file: &[u8], at: usize) -> Step
     ensures { result ≡ step_at file.now at }
 {
-    next(new(file, at))
+    Reader::new(file, at).next()
 }

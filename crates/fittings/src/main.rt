@@ -2,24 +2,20 @@
 // on standard error.
 #![tactic(auto)]
 
-ghost use Rattle.std.specs.Prelude.{◌≡◌, ◌≤◌, true, length, take};
+ghost use Rattle.std.specs.Prelude.{◌≡◌, ◌≤◌, true, length, take, OnOk};
 ghost use Rattle.std.specs.Io.KnownBytes.{Appends, Consumes, IsAtEnd};
 ghost use Rattle.text_lines.specs.Text.{text_of};
 ghost use Rattle.fitting_listing.specs.Lines.{lines_of};
 
 use fitting_listing::{MOST, ROOM};
-use std::io::{Read, Write};
+use std::io::{self, Read, Write};
 
-// Lists a file in a buffer, and writes what was listed. Returns false where not all of it was written. Where it returns true, the text of
-// the file's lines was written, as far as the buffer has room.
-fn write_listing<W: Write>(out: &mut W, file: &[u8], text: &mut [u8]) -> bool
-    ensures { result ≡ true → Appends (W.contents out.old) (W.contents out.new) (take (length text.old) (text_of (lines_of file.now))) }
+// Lists a file in a buffer, and writes what was listed: the text of the file's lines, as far as the buffer has room.
+fn write_listing<W: Write>(out: &mut W, file: &[u8], text: &mut [u8]) -> io::Result<()>
+    ensures { OnOk result (Appends (W.contents out.old) (W.contents out.new) (take (length text.old) (text_of (lines_of file.now)))) }
 {
     let end = fitting_listing::list(file, text);
-    match out.write_all(&text[..end]) {
-        Ok(()) => true,
-        Err(_) => false,
-    }
+    out.write_all(&text[..end])
 }
 
 // Reads until the buffer is full, the input ends or a read fails, and returns how many bytes it put at the start of the buffer. They are
@@ -30,6 +26,7 @@ fn read_full<R: Read>(input: &mut R, buffer: &mut [u8]) -> usize
     ensures bytes { Consumes (R.remaining input.old) (R.remaining input.new) (take result buffer.new) }
 {
     let mut done = 0;
+    // A read puts as many bytes as it likes, so no range counts them: a `for` is no plainer.
     while done < buffer.len() {
         match input.read(&mut buffer[done..]) {
             Ok(0) => return done,
@@ -45,10 +42,7 @@ fn ended<R: Read>(input: &mut R) -> bool
     ensures { result ≡ true → IsAtEnd (R.remaining input.new) }
 {
     let mut more = [0u8; 1];
-    match input.read(&mut more) {
-        Ok(got) => got == 0,
-        Err(_) => false,
-    }
+    matches!(input.read(&mut more), Ok(0))
 }
 
 // One byte past the longest file tells that it is too long; nothing behind it matters. A shorter input must have ended.
@@ -57,16 +51,11 @@ fn main(rt: HostRuntime) {
     let mut text = [0u8; ROOM];
     let mut input = rt.stdin();
     let read = read_full(&mut input, &mut file);
-    let mut whole = true;
-    if read <= MOST {
-        whole = ended(&mut input);
-    }
-    if whole {
-        let written = write_listing(&mut rt.stdout(), &file[..read], &mut text);
-        if !written {
-            let _ = eprintln!(rt; "fittings: the listing cannot be written");
-        }
-    } else {
+    if read <= MOST && !ended(&mut input) {
         let _ = eprintln!(rt; "fittings: the input cannot be read");
+        return;
+    }
+    if write_listing(&mut rt.stdout(), &file[..read], &mut text).is_err() {
+        let _ = eprintln!(rt; "fittings: the listing cannot be written");
     }
 }

@@ -1,14 +1,15 @@
 -- A frame has eight bytes more than its body, and gives it back. Bytes with the mark, their own count and their checksum are a frame.
-use Prim.Native.Nat.{ℕ, suc, ◌+◌, ◌-◌, ◌*◌, ◌/◌, ◌%◌, ◌≤◌, ◌<◌}
+use Prim.Native.Nat.{ℕ, ◌+◌, ◌-◌, ◌*◌, ◌/◌, ◌%◌, ◌≤◌, ◌<◌}
 use native.Mathlib.Nat.{zero-add}
 use native.Mathlib.Omega.{arith}
 use mathlib.Core.Path.{◌≡◌, refl, sym, ap, ap₂, ◌∙◌}
 use mathlib.Core.Logic.{◌↔◌}
 use mathlib.Core.Bool.{Bool, true, false, false≢true, and-eq-true_iff}
-use mathlib.Core.List.{List, [], ◌∷◌, ◌++◌}
-use lib.ListN.{length, get_or, take, drop, set, length-append, length-take}
-use lib.Seq.{take_at, take-length, drop-append-add, drop-drop, sets-eq, paste}
+use mathlib.Core.List.{List, [], ◌∷◌, ◌++◌, append_assoc}
+use lib.ListN.{length, get_or, take, drop, length-append, length-take}
+use lib.Seq.{take_at, take_all, drop_at, drop-append-add, drop-drop, paste, length-paste, take-paste}
 use lib.Dec.{leb}
+use borrow.Rule.Slice.PartMut.{put_mid}
 use borrow.Author.Tests.{leb-true, le-leb}
 use Rattle.base.proofs.BelowLaws.{not-held}
 use Rattle.checksum.specs.Checksum.{checksum}
@@ -17,6 +18,19 @@ use Rattle.checksum.proofs.Residue.{stored-length}
 use Rattle.images.specs.Image.{same_bytes}
 use Rattle.images.proofs.Images.{same-bytes-iff}
 use Rattle.frames.specs.Frame.{most_body, header_bytes, frame_bytes, head_of, frame_of, IsFrame, body_in, is_frame}
+
+-- ---- two lists copied one behind the other
+
+pub take-two : (u v before : List ℕ) → length u + length v ≤ length before
+    → take (length u + length v) (paste (paste before 0 u (length u)) (length u) v (length v)) ≡ u ++ v
+take-two u v before room =
+    let d : List ℕ = paste before 0 u (length u) in
+    let l : length d ≡ length before = length-paste before 0 u (length u) (omega arith) (omega arith) in
+    let one : take (length u) d ≡ u =
+    ap (λ (n : ℕ). take n d) (sym (zero-add (length u))) ∙ take-paste before 0 u (length u) (omega arith) (omega arith)
+    ∙ take_all (length u) u (omega arith) in
+    let two : take (length v) v ≡ v = take_all (length v) v (omega arith) in
+    take-paste d (length u) v (length v) (omega arith) (omega arith) ∙ (λ z. one z ++ two z)
 
 -- ---- a frame and its body
 
@@ -126,6 +140,14 @@ fits-true f s h = sym ((frame-iff f).1 (fits-frame f s h))
 pub fits-false : (f : List ℕ) → (Fits f → ⊥) → false ≡ is_frame f
 fits-false f h = sym (not-held (is_frame f) (λ e. h (frame-fits f (body_in f) ((frame-iff f).0 e))))
 
+-- A test that fails shows that the bytes are no frame
+module _ (f : List ℕ) where
+  pub not_second : (get_or f 1 0 ≡ 0x51 → ⊥) → false ≡ is_frame f
+  not_second e = fits-false f (λ h. e h.second)
+
+  pub not_counted : (n : ℕ) → (n ≡ length f - frame_bytes → ⊥) → n ≡ get_or f 2 0 + 256 * get_or f 3 0 → false ≡ is_frame f
+  not_counted n e d = fits-false f (λ h. e (d ∙ h.count))
+
 -- The last test decides, if the others have passed
 pub fits_by :
     (f : List ℕ) (r : Bool) → (r ≡ true) ↔ Stored f → get_or f 2 0 < 256 → frame_bytes ≤ length f → length f ≤ most_body + frame_bytes
@@ -144,28 +166,33 @@ body-count f e =
 -- ---- a frame as it is written
 
 -- The checksum is stored behind the first n bytes
-pub sealed-list :
-    (l : List ℕ) (n k : ℕ) → n + 4 ≤ length l → k ≡ checksum (take n l)
-    → set (set (set (set l n (k % 256)) (n + 1) (k / 256 % 256)) (n + 2) (k / 65536 % 256)) (n + 3) (k / 16777216 % 256)
-    ≡ stored (take n l) ++ drop (n + 4) l
-unfolding stored little_endian
-sealed-list l n k h e =
-    let one : n + 1 ≡ suc n = omega arith in
-    let two : n + 2 ≡ suc (suc n) = omega arith in
-    let three : n + 3 ≡ suc (suc (suc n)) = omega arith in
-    rw (one, two, three)
-    (sets-eq (little_endian k) l n h ∙ ap (λ (x : ℕ). take n l ++ little_endian x ++ drop (n + 4) l) e)
+pub sealed-list : (l e : List ℕ) (n k : ℕ) → k ≡ checksum (take n l) → e ≡ little_endian k
+    → put_mid n (n + 4 - n) l e ≡ stored (take n l) ++ drop (n + 4) l
+unfolding stored
+sealed-list l e n k sum is =
+    let four : n + 4 - n ≡ 4 = omega arith in
+    let last : List ℕ = little_endian (checksum (take n l)) in
+    ap (λ (x : List ℕ). put_mid n (n + 4 - n) l x) (is ∙ ap little_endian sum)
+    ∙ ap (λ (m : ℕ). take n l ++ (last ++ drop m (drop n l))) four
+    ∙ ap (λ (x : List ℕ). take n l ++ (last ++ x)) (drop-drop 4 n l)
+    ∙ sym (append_assoc (take n l) last (drop (n + 4) l))
 
--- A list at the front of another
-pub pasted-front : (l b : List ℕ) → paste l 0 b (length b) ≡ b ++ drop (length b) l
-pasted-front l b = ap₂ (λ (x : List ℕ) (k : ℕ). x ++ drop k l) (take-length b) (zero-add (length b))
+-- A head of four bytes and a body are put at the front, one after the other
+pub head-body : (l b h b₂ : List ℕ) (k : ℕ) → length h ≡ header_bytes → b₂ ≡ b → k ≡ length b
+    → put_mid header_bytes k (h ++ drop header_bytes l) b₂ ≡ (h ++ b) ++ drop (header_bytes + length b) l
+head-body l b h b₂ k s e n =
+    rw (e, n)
+    (ap₂ (λ (x y : List ℕ). x ++ (b ++ drop (length b) y)) (take_at h (drop header_bytes l) header_bytes s)
+    (drop_at h (drop header_bytes l) header_bytes s)
+    ∙ ap (λ (x : List ℕ). h ++ (b ++ x)) (drop-drop (length b) header_bytes l)
+    ∙ sym (append_assoc h b (drop (header_bytes + length b) l)))
 
 -- The head, the body and the checksum, one after the other, and what stood behind them
 pub framed-list :
-    (l b l₁ l₂ : List ℕ) → l₁ ≡ head_of (length b) ++ drop header_bytes l → l₂ ≡ paste l₁ header_bytes b (length b)
+    (l b l₂ : List ℕ) → l₂ ≡ (head_of (length b) ++ b) ++ drop (header_bytes + length b) l
     → stored (take (length b + header_bytes) l₂) ++ drop (length b + header_bytes + 4) l₂ ≡ frame_of b ++ drop (length b + frame_bytes) l
 unfolding frame_of
-framed-list l b l₁ l₂ e₁ e₂ =
+framed-list l b l₂ whole =
     ap₂ (λ (x y : List ℕ). stored x ++ y) front rest
   where
     n : ℕ
@@ -176,13 +203,6 @@ framed-list l b l₁ l₂ e₁ e₂ =
 
     size : length head ≡ n + header_bytes
     size = omega (arith, length-append (head_of n) b)
-
-    whole : l₂ ≡ head ++ drop (header_bytes + n) l
-    whole =
-        e₂
-        ∙ ap (λ (x : List ℕ). paste x header_bytes b n) e₁
-        ∙ ap₂ (λ (x y : List ℕ). head_of n ++ x ++ y) (take-length b)
-        (drop-append-add (head_of n) (drop header_bytes l) n ∙ drop-drop n header_bytes l)
 
     front : take (n + header_bytes) l₂ ≡ head
     front = ap (take (n + header_bytes)) whole ∙ take_at head (drop (header_bytes + n) l) (n + header_bytes) size

@@ -5,11 +5,10 @@ use mathlib.Core.List.{List}
 use lib.Ieee.{Float}
 use Rattle.chart.specs.declared.Refusal.TheVariants.{NothingAtWork, Party, Place}
 use Rattle.calls.specs.Calls.{bad_party, bad_place, by}
-use Rattle.calls.specs.Replies.{reply_fields, piece_in}
+use Rattle.calls.specs.Replies.{Reply, reply_fields, piece_in}
 use Rattle.calls.specs.declared.Action.TheVariants.{Ask}
 use Rattle.calls.specs.declared.Question.TheVariants.{Reading as OfReading, Piece as OfPiece}
 use Rattle.calls.specs.declared.Reading.{Reading}
-use Rattle.calls.specs.declared.Reply.{Reply}
 use Rattle.readings.specs.Located.{Held}
 use Rattle.readings.specs.Named.{ReadingNamed}
 use Rattle.readings.proofs.Named as Readings

@@ -1,10 +1,11 @@
 -- The cell of a close's reply is the verdict's on the draft, for any content. A close without a verdict names no cell.
+use Rattle.std.specs.Prelude.{Result, Ok, Err}
 use Prim.Native.Nat.{ℕ}
 use native.Mathlib.Omega.{arith}
 use mathlib.Core.Path.{◌≡◌, sym, subst}
 use mathlib.Core.Bool.{Bool, true, false, cond}
-use Rattle.chart.specs.declared.Verdict.{Verdict}
-use Rattle.chart.specs.declared.Verdict.TheVariants.{Taken, Refused}
+use Rattle.chart.specs.declared.Refusal.{Refusal}
+use Rattle.chart.specs.declared.Taken.{Taken}
 use Rattle.chart.specs.Outline.{Outline}
 use Rattle.chart.specs.Fields.{verdict_fields}
 use Rattle.verdict.specs.Named.{CellNamed}
@@ -13,22 +14,21 @@ use Rattle.judge.specs.declared.Judged.{Judged}
 use Rattle.judge.specs.Judged.{judged_of}
 use Rattle.judge.proofs.JudgedLaws.{judged-verdict}
 use Rattle.calls.specs.Calls.{bad_party, bad_place, by}
-use Rattle.calls.specs.Replies.{reply_fields}
+use Rattle.calls.specs.Replies.{Reply, reply_fields}
 use Rattle.calls.specs.declared.Action.TheVariants.{Close}
-use Rattle.calls.specs.declared.Reply.{Reply}
-use Rattle.calls.specs.declared.Reply.TheVariants.{Taken as WasTaken, Same}
+use Rattle.calls.specs.declared.Answer.TheVariants.{Taken as WasTaken, Same}
 use Rattle.holder_records.specs.Work.{listed, has_edges}
 use Rattle.holder_memory.specs.Layout.{Holder}
 use Rattle.holder_answers.specs.Arrays.{Answered, reply, Preparation, begun, draft_in, work_in, outline_prepared_by, prepared_of}
 use Rattle.holder_answers.specs.Arrays.{prepare_of, close_of, act_of, answer_of}
 
-closed-named : (h : Holder) (p k : ℕ) (o : Outline) (j : Judged) (v : Verdict) → CellNamed o (verdict_fields v)
+closed-named : (h : Holder) (p k : ℕ) (o : Outline) (j : Judged) (v : Result Taken Refusal) → CellNamed o (verdict_fields v)
     → CellNamed o (reply_fields (outline_prepared_by h p k o j v).reply)
 unfolding outline_prepared_by reply_fields
-closed-named h p k o j (Refused f) c = c
-closed-named h p k o j (Taken n a) c = go (has_edges (work_in h p k) a (listed j.numbers n))
+closed-named h p k o j (Err f) c = c
+closed-named h p k o j (Ok u) c = go (has_edges (work_in h p k) u.anchor (listed j.numbers u.edges))
   where
-    go : (t : Bool) → CellNamed o (reply_fields (cond t (Same n a) (WasTaken n a)))
+    go : (t : Bool) → CellNamed o (reply_fields (cond t (Ok (Same u.edges u.anchor)) (Ok (WasTaken u.edges u.anchor))))
     go true = record { anchor = c.anchor; missing = c.missing }
     go false = record { anchor = c.anchor; missing = c.missing }
 

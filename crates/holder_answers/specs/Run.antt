@@ -2,7 +2,7 @@
 use Rattle.std.specs.Prelude.{List, [], ◌∷◌, replicate, pos}
 use Rattle.chart.specs.Refusals as refusals
 use Rattle.calls.specs.declared.Call.{Call}
-use Rattle.calls.specs.declared.Reply.{Reply}
+use Rattle.calls.specs.Replies.{Reply}
 use Rattle.holder_memory.specs.Layout.{letter_bytes, Holder, arrays, row_bytes, edge_numbers, head_numbers}
 use Rattle.holder_answers.specs.Arrays.{answer_of}
 

@@ -15,8 +15,8 @@ use Rattle.calls.specs.declared.Action.TheVariants.{Begin, Add, Drop, Clear, Clo
 use Rattle.calls.specs.declared.Question.TheVariants.{Cell as OfCell, Row as OfRow, Reading as OfReading, Piece as OfPiece}
 use Rattle.calls.specs.declared.Reading.{Reading}
 use Rattle.readings.specs.Located.{reading_of}
-use Rattle.wire.specs.declared.Decoded.{Decoded}
-use Rattle.wire.specs.declared.Decoded.TheVariants.{Call as OfCall, Nothing}
+use Rattle.wire.specs.Wire.{Decoded}
+use Rattle.std.specs.Prelude.{Some, None}
 use Rattle.wire.specs.Wire.{call_width, long, letter_of, short_of, point_of, call_of, decoded}
 use Rattle.wire.proofs.CallLaws.{decoded-held}
 use Rattle.holder_memory.specs.Layout.{Holder}
@@ -31,13 +31,13 @@ use Rattle.holder_bytes.specs.Responded.{is_call, next_holder, reply_by, Respond
 -- ---- what is done
 
 -- Bytes that are this call
-pub responded-done : (h n : Holder) (c : Call) (d : Decoded) → d ≡ OfCall c → (reply reply' : List ℕ) → Done h n c reply'
+pub responded-done : (h n : Holder) (c : Call) (d : Decoded) → d ≡ Some c → (reply reply' : List ℕ) → Done h n c reply'
     → Responded h n d reply reply' true
 unfolding is_call next_holder reply_by
 responded-done h n c d e reply reply' m = record { done = rw e; holder = m.holder ∙ rw e; replied = m.replied ∙ rw e }
 
 -- Bytes that are not a call
-pub responded-none : (h : Holder) (d : Decoded) → d ≡ Nothing → (reply : List ℕ) → Responded h h d reply reply false
+pub responded-none : (h : Holder) (d : Decoded) → d ≡ None → (reply : List ℕ) → Responded h h d reply reply false
 unfolding is_call next_holder reply_by
 responded-none h d e reply = record { done = rw e; holder = rw e; replied = rw e }
 
@@ -56,7 +56,7 @@ halves-done h n p k w reply m heads e =
 -- ---- what the reply says
 
 -- The fields of the reply to a call
-replied-as : (h n : Holder) (d : Decoded) (c : Call) → d ≡ OfCall c → (reply reply' : List ℕ) (r : Bool) → Responded h n d reply reply' r
+replied-as : (h n : Holder) (d : Decoded) (c : Call) → d ≡ Some c → (reply reply' : List ℕ) (r : Bool) → Responded h n d reply reply' r
     → fields_of reply' ≡ reply_fields (answer_of h c).reply
 unfolding reply_by
 replied-as h n d c e reply reply' r m =
@@ -73,7 +73,7 @@ responded-told h n s reply reply' r m =
 
 -- ---- bytes as a call
 
-pub decoded-other : (s : List ℕ) → (length s ≡ call_width → ⊥) → decoded s ≡ Nothing
+pub decoded-other : (s : List ℕ) → (length s ≡ call_width → ⊥) → decoded s ≡ None
 unfolding decoded
 decoded-other s e = rw (ne_eqb (length s) call_width e)
 
@@ -85,38 +85,38 @@ decoded-call s e x y ex ey = rw (eq-eqb (length s) call_width e, ex, ey)
 -- ---- the call of each number
 
 module _ (n p k x y : ℕ) where
-  pub is-begin : (s : Point) → n ≡ 0 → s ≡ point_of x y → call_of n p k x y ≡ OfCall (by p (Begin s))
+  pub is-begin : (s : Point) → n ≡ 0 → s ≡ point_of x y → call_of n p k x y ≡ Some (by p (Begin s))
   unfolding call_of
   is-begin s e f = rw (e, f)
 
-  pub is-add : (a : ℕ) → n ≡ 1 → a ≡ letter_of x → call_of n p k x y ≡ OfCall (by p (Add a))
+  pub is-add : (a : ℕ) → n ≡ 1 → a ≡ letter_of x → call_of n p k x y ≡ Some (by p (Add a))
   unfolding call_of
   is-add a e f = rw (e, f)
 
-  pub is-drop : n ≡ 2 → call_of n p k x y ≡ OfCall (by p Drop)
+  pub is-drop : n ≡ 2 → call_of n p k x y ≡ Some (by p Drop)
   unfolding call_of
   is-drop e = rw e
 
-  pub is-clear : n ≡ 3 → call_of n p k x y ≡ OfCall (by p (Clear k))
+  pub is-clear : n ≡ 3 → call_of n p k x y ≡ Some (by p (Clear k))
   unfolding call_of
   is-clear e = rw e
 
-  pub is-close : n ≡ 4 → call_of n p k x y ≡ OfCall (by p (Close k))
+  pub is-close : n ≡ 4 → call_of n p k x y ≡ Some (by p (Close k))
   unfolding call_of
   is-close e = rw e
 
-  pub is-query : (s : Point) → n ≡ 5 → s ≡ point_of x y → call_of n p k x y ≡ OfCall (by p (Ask k (OfCell s)))
+  pub is-query : (s : Point) → n ≡ 5 → s ≡ point_of x y → call_of n p k x y ≡ Some (by p (Ask k (OfCell s)))
   unfolding call_of
   is-query s e f = rw (e, f)
 
-  pub is_row : (a : ℕ) → n ≡ 6 → a ≡ short_of x → call_of n p k x y ≡ OfCall (by p (Ask k (OfRow a)))
+  pub is_row : (a : ℕ) → n ≡ 6 → a ≡ short_of x → call_of n p k x y ≡ Some (by p (Ask k (OfRow a)))
   unfolding call_of
   is_row a e f = rw (e, f)
 
-  pub is-reading : (v : Reading) → n ≡ 7 → v ≡ reading_of x y → call_of n p k x y ≡ OfCall (by p (Ask k (OfReading v)))
+  pub is-reading : (v : Reading) → n ≡ 7 → v ≡ reading_of x y → call_of n p k x y ≡ Some (by p (Ask k (OfReading v)))
   unfolding call_of
   is-reading v e f = rw (e, f)
 
-  pub is-piece : (a : ℕ) → n ≡ 8 → a ≡ short_of x → call_of n p k x y ≡ OfCall (by p (Ask k (OfPiece a)))
+  pub is-piece : (a : ℕ) → n ≡ 8 → a ≡ short_of x → call_of n p k x y ≡ Some (by p (Ask k (OfPiece a)))
   unfolding call_of
   is-piece a e f = rw (e, f)

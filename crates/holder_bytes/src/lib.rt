@@ -11,7 +11,8 @@ use holder_memory::{HEADS, LETTERS, NUMBERS, ROW_BYTES};
 use readings::from_bits;
 use wire::{BYTES, letter, long, point, short};
 
-// The call of this number. Each arm acts and writes by itself: no call and no reply that could be of any kind goes through memory.
+// The call of this number, which is a byte of the C interface, as its arrays are named there one by one. Each arm acts and writes by
+// itself: no call and no reply that could be of any kind goes through memory.
 fn act(
     letters: &mut [u8; LETTERS],
     rows: &mut [u8; ROW_BYTES],

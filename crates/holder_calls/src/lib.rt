@@ -1,53 +1,70 @@
-// The calls on a holder in four arrays but close, each in place (contract 7.3 to 7.5, 7.8 to 7.11, 10.4).
+// The calls on a holder in four arrays but close, each in place (contract 7.3 to 7.5, 7.8 to 7.11, 10.4). The arrays come one by one, and
+// so do a party and its place: the C interface names them so. The four questions have two lines each: one function over a closure would be
+// as long, and hide which arrays a call needs.
 #![tactic(auto)]
 
-ghost use Rattle.std.specs.Prelude.{◌≡◌, List, ℕ, ℤ};
-ghost use Rattle.calls.specs.Calls.{by};
-ghost use Rattle.holder_memory.specs.Layout.{arrays};
+ghost use Rattle.std.specs.Prelude.{◌≡◌, ◌<◌, List, ℕ, ℤ, MatchResult};
+ghost use Rattle.calls.specs.Calls.{by, parties, places};
+ghost use Rattle.holder_memory.specs.Layout.{arrays, spot, place_word};
 ghost use Rattle.holder_answers.specs.Arrays.{reply, answer_of, draft_of};
 ghost use Rattle.holder_answers.specs.Run.{fresh_holder};
-ghost use Rattle.holder_calls.specs.parts.Asked.{asked_at};
+ghost use Rattle.holder_calls.specs.parts.Asked.{asked_at, Drafts, Undrafted, Nowhere};
 
-use calls::{Action, PARTIES, PLACES, Question, Reading, Reply};
+use calls::{Action, Answer, PLACES, Question, Reading, party_index, place_index};
 use chart::{LONGEST, Point, Refusal};
-use holder_answers::Drafting;
+use holder_answers::Draft;
 use holder_memory::naming::slot_of;
 use holder_memory::writes::put_start;
-use holder_memory::{DRAFT_NUMBERS, HEADS, LETTERS, NUMBERS, PLACE_WORDS, ROW_BYTES, wide};
+use holder_memory::{DRAFT_NUMBERS, HEADS, LETTERS, NUMBERS, PLACE_WORDS, ROW_BYTES};
 use survey::checks::bad_start;
 
-// Where a question looks: 19, 20, or the slot that the place names, 10 for none.
-#[derive(Clone, Copy)]
-enum Asked {
-    Refused(Refusal),
-    Slot(usize),
+// The index of a party that has a draft: 19, 13, or the index.
+fn drafter(heads: &[u16; HEADS], party: u8) -> Result<usize, Refusal>
+    ensures { MatchResult result (λ p. (p ≡ party) × (party < parties) × Drafts heads.now party)
+        (λ why. Undrafted heads.now party why) }
+{
+    let p = party_index(party)?;
+    if heads[DRAFT_NUMBERS * p] == 0 {
+        return Err(Refusal::NoDraft);
+    }
+    Ok(p)
+}
+
+// Where the word of a place stands: 19, 20, or its index in the heads.
+fn word_at(party: u8, place: u8) -> Result<usize, Refusal>
+    ensures { MatchResult result
+        (λ at. (at ≡ place_word (spot party place)) × (party < parties) × (place < places))
+        (λ why. Nowhere party place why) }
+{
+    let p = party_index(party)?;
+    let k = place_index(place)?;
+    Ok(PLACE_WORDS + (PLACES * p + k))
 }
 
 // 19, 13, 15, 3, or the letter is added.
-pub fn add(letters: &mut [u8; LETTERS], heads: &mut [u16; HEADS], party: u8, letter: u8) -> Reply
+pub fn add(
+    letters: &mut [u8; LETTERS],
+    heads: &mut [u16; HEADS],
+    party: u8,
+    letter: u8,
+) -> Result<Answer, Refusal>
     ensures { (rows : List ℕ) (numbers : List ℤ)
         → reply result (arrays letters.new rows numbers heads.new)
         ≡ answer_of (arrays letters.old rows numbers heads.old) (by party (Action.Add letter)) }
 {
-    let p = party as usize;
-    if PARTIES <= p {
-        return Reply::Refused(Refusal::Party);
-    }
+    let p = drafter(heads, party)?;
     let at = DRAFT_NUMBERS * p;
-    if heads[at] == 0 {
-        return Reply::Refused(Refusal::NoDraft);
-    }
     let count = heads[at + 3];
-    let n = wide(count);
+    let n = usize::from(count);
     if LONGEST <= n {
-        return Reply::Refused(Refusal::DraftFull);
+        return Err(Refusal::DraftFull);
     }
     if 3 < letter {
-        return Reply::Refused(Refusal::Letter { place: count });
+        return Err(Refusal::Letter { place: count });
     }
     letters[LONGEST * p + n] = letter;
     heads[at + 3] = count + 1;
-    Reply::Done
+    Ok(Answer::Done)
 }
 
 // Makes the arrays a fresh holder, whatever they held.
@@ -66,75 +83,52 @@ pub fn clear_all(
 }
 
 // 19, 14, 2, or the draft is opened.
-pub fn begin(heads: &mut [u16; HEADS], party: u8, start: Point) -> Reply
+pub fn begin(heads: &mut [u16; HEADS], party: u8, start: Point) -> Result<Answer, Refusal>
     ensures { (letters rows : List ℕ) (numbers : List ℤ)
         → reply result (arrays letters rows numbers heads.new)
         ≡ answer_of (arrays letters rows numbers heads.old) (by party (Action.Begin start)) }
 {
-    let p = party as usize;
-    if PARTIES <= p {
-        return Reply::Refused(Refusal::Party);
-    }
+    let p = party_index(party)?;
     let at = DRAFT_NUMBERS * p;
     if heads[at] != 0 {
-        return Reply::Refused(Refusal::DraftOpen);
+        return Err(Refusal::DraftOpen);
     }
     if bad_start(start) {
-        return Reply::Refused(Refusal::Start);
+        return Err(Refusal::Start);
     }
     put_start(heads, at, start);
-    Reply::Done
+    Ok(Answer::Done)
 }
 
 // 19, 13, or the draft ends.
-pub fn drop(heads: &mut [u16; HEADS], party: u8) -> Reply
+pub fn drop(heads: &mut [u16; HEADS], party: u8) -> Result<Answer, Refusal>
     ensures { (letters rows : List ℕ) (numbers : List ℤ)
         → reply result (arrays letters rows numbers heads.new)
         ≡ answer_of (arrays letters rows numbers heads.old) (by party Action.Drop) }
 {
-    let p = party as usize;
-    if PARTIES <= p {
-        return Reply::Refused(Refusal::Party);
-    }
-    let at = DRAFT_NUMBERS * p;
-    if heads[at] == 0 {
-        return Reply::Refused(Refusal::NoDraft);
-    }
-    heads[at] = 0;
-    Reply::Done
+    let p = drafter(heads, party)?;
+    heads[DRAFT_NUMBERS * p] = 0;
+    Ok(Answer::Done)
 }
 
 // 19, 20, or nothing is left at work at the place.
-pub fn clear(heads: &mut [u16; HEADS], party: u8, place: u8) -> Reply
+pub fn clear(heads: &mut [u16; HEADS], party: u8, place: u8) -> Result<Answer, Refusal>
     ensures { (letters rows : List ℕ) (numbers : List ℤ)
         → reply result (arrays letters rows numbers heads.new)
         ≡ answer_of (arrays letters rows numbers heads.old) (by party (Action.Clear place)) }
 {
-    let p = party as usize;
-    if PARTIES <= p {
-        return Reply::Refused(Refusal::Party);
-    }
-    let k = place as usize;
-    if PLACES <= k {
-        return Reply::Refused(Refusal::Place);
-    }
-    heads[PLACE_WORDS + (PLACES * p + k)] = 0;
-    Reply::Done
+    let at = word_at(party, place)?;
+    heads[at] = 0;
+    Ok(Answer::Done)
 }
 
-// Where a question looks.
-fn slot_at(heads: &[u16; HEADS], party: u8, place: u8) -> Asked
+// Where a question looks: 19, 20, or the slot that the place names, 10 for none.
+fn slot_at(heads: &[u16; HEADS], party: u8, place: u8) -> Result<usize, Refusal>
     ensures { result ≡ asked_at heads.now party place }
 {
-    let p = party as usize;
-    if PARTIES <= p {
-        return Asked::Refused(Refusal::Party);
-    }
-    let k = place as usize;
-    if PLACES <= k {
-        return Asked::Refused(Refusal::Place);
-    }
-    Asked::Slot(slot_of(p, heads[PLACE_WORDS + (PLACES * p + k)]))
+    let p = party_index(party)?;
+    let k = place_index(place)?;
+    Ok(slot_of(p, heads[PLACE_WORDS + (PLACES * p + k)]))
 }
 
 // 19, 20, 12, 11, or where the cell lies.
@@ -144,16 +138,14 @@ pub fn query<'a>(
     party: u8,
     place: u8,
     cell: Point,
-) -> Reply
+) -> Result<Answer, Refusal>
     ensures { (letters : List ℕ) (numbers : List ℤ)
         → reply result (arrays letters rows.now numbers heads.now)
         ≡ answer_of (arrays letters rows.now numbers heads.now)
         (by party (Action.Ask place (Question.Cell cell))) }
 {
-    match slot_at(heads, party, place) {
-        Asked::Refused(why) => Reply::Refused(why),
-        Asked::Slot(slot) => holder_works::query(&rows[..], slot, cell),
-    }
+    let slot = slot_at(heads, party, place)?;
+    holder_works::query(rows, slot, cell)
 }
 
 // 19, 20, 12, 11, or the columns of the row.
@@ -163,16 +155,14 @@ pub fn row<'a>(
     party: u8,
     place: u8,
     row: u16,
-) -> Reply
+) -> Result<Answer, Refusal>
     ensures { (letters : List ℕ) (numbers : List ℤ)
         → reply result (arrays letters rows.now numbers heads.now)
         ≡ answer_of (arrays letters rows.now numbers heads.now)
         (by party (Action.Ask place (Question.Row row))) }
 {
-    match slot_at(heads, party, place) {
-        Asked::Refused(why) => Reply::Refused(why),
-        Asked::Slot(slot) => holder_works::row(&rows[..], slot, row),
-    }
+    let slot = slot_at(heads, party, place)?;
+    holder_works::row(rows, slot, row)
 }
 
 // 19, 20, 12, 11, or where the reading lies.
@@ -182,16 +172,14 @@ pub fn reading<'a>(
     party: u8,
     place: u8,
     reading: Reading,
-) -> Reply
+) -> Result<Answer, Refusal>
     ensures { (letters rows : List ℕ)
         → reply result (arrays letters rows numbers.now heads.now)
         ≡ answer_of (arrays letters rows numbers.now heads.now)
         (by party (Action.Ask place (Question.Reading reading))) }
 {
-    match slot_at(heads, party, place) {
-        Asked::Refused(why) => Reply::Refused(why),
-        Asked::Slot(slot) => holder_works::reading(&numbers[..], &heads[..], slot, reading),
-    }
+    let slot = slot_at(heads, party, place)?;
+    holder_works::reading(numbers, heads, slot, reading)
 }
 
 // 19, 20, 12, or the path command at the position.
@@ -201,35 +189,26 @@ pub fn piece<'a>(
     party: u8,
     place: u8,
     position: u16,
-) -> Reply
+) -> Result<Answer, Refusal>
     ensures { (letters rows : List ℕ)
         → reply result (arrays letters rows numbers.now heads.now)
         ≡ answer_of (arrays letters rows numbers.now heads.now)
         (by party (Action.Ask place (Question.Piece position))) }
 {
-    match slot_at(heads, party, place) {
-        Asked::Refused(why) => Reply::Refused(why),
-        Asked::Slot(slot) => holder_works::piece(&numbers[..], &heads[..], slot, position),
-    }
+    let slot = slot_at(heads, party, place)?;
+    holder_works::piece(numbers, heads, slot, position)
 }
 
-// Whether the party has a draft, its start and its count.
-pub fn draft(heads: &[u16; HEADS], party: u8) -> Drafting
+// 19, 13, or the start and the count of the party's draft.
+pub fn draft(heads: &[u16; HEADS], party: u8) -> Result<Draft, Refusal>
     ensures { (letters rows : List ℕ) (numbers : List ℤ) → result ≡ draft_of (arrays letters rows numbers heads.now) party }
 {
-    let p = party as usize;
-    if PARTIES <= p {
-        return Drafting::Refused(Refusal::Party);
-    }
-    let at = DRAFT_NUMBERS * p;
-    if heads[at] == 0 {
-        return Drafting::Refused(Refusal::NoDraft);
-    }
-    Drafting::Open {
-        start: Point {
-            col: heads[at + 1],
-            row: heads[at + 2],
-        },
-        count: heads[at + 3],
-    }
+    let whose = drafter(heads, party)?;
+    let at = DRAFT_NUMBERS * whose;
+    let start = Point {
+        col: heads[at + 1],
+        row: heads[at + 2],
+    };
+    let count = heads[at + 3];
+    Ok(Draft { start, count })
 }

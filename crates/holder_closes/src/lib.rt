@@ -1,28 +1,39 @@
 // A close in two halves: prepare writes a slot that no place names, and commit one number (contract 7.6, 7.7, 10.4). So no close writes an
-// outline that is at work.
+// outline that is at work. The arrays of a holder come one by one, and so do a party and its place: the C interface names them so.
 #![tactic(auto)]
 
-ghost use Rattle.std.specs.Prelude.{◌≡◌, cond, List, ℕ, ◌<◌};
+ghost use Rattle.std.specs.Prelude.{◌≡◌, cond, List, ℕ, ◌<◌, Ok, Err};
 ghost use Rattle.chart.specs.Outline.{outline};
 ghost use Rattle.spans.specs.Spans.{spans_of};
 ghost use Rattle.calls.specs.Calls.{parties, places, by};
 ghost use Rattle.holder_memory.specs.Layout.{slots, arrays};
 ghost use Rattle.holder_answers.specs.Arrays.{preparation, reply, outline_prepared, prepare_of, commit_of, answer_of, filled};
 
-use calls::{Action, PARTIES, PLACES, Reply};
-use chart::{MOST_NUMBERS, Point, Refusal, Verdict};
+use calls::{Action, Answer, PARTIES, PLACES};
+use chart::{MOST_NUMBERS, Point, Refusal, Taken};
 use holder_memory::letters::sent;
 use holder_memory::naming::{free_tag, slot_of, word_of};
 use holder_memory::writes::{put_numbers, put_slot_head};
-use holder_memory::{DRAFT_NUMBERS, HEADS, LETTERS, NUMBERS, OWN, PLACE_WORDS, ROW_BYTES, wide};
+use holder_memory::{DRAFT_NUMBERS, HEADS, LETTERS, NUMBERS, OWN, PLACE_WORDS, ROW_BYTES};
 use holder_works::has;
 use span_list::put_outline;
 
-// What a prepare replies, and the word for the place: 0 if it refuses.
+// What a prepare replies, and the word for the place: 0 if it refuses. C gets the two apart, so that they are no result with a word.
 #[derive(Clone, Copy)]
 pub struct Prepared {
-    pub reply: Reply,
+    pub reply: Result<Answer, Refusal>,
     pub word: u16,
+}
+
+impl Prepared {
+    pub fn refused(why: Refusal) -> Prepared
+        ensures { result ≡ record { reply = Err why; word = 0 } }
+    {
+        Prepared {
+            reply: Err(why),
+            word: 0,
+        }
+    }
 }
 
 // A taken outline fills a slot.
@@ -48,13 +59,13 @@ fn fill(
 }
 
 // The reply of a close that takes the draft.
-fn taken_reply(same: bool, edges: u16, anchor: Point) -> Reply
-    ensures { result ≡ cond same (Reply.Same edges anchor) (Reply.Taken edges anchor) }
+fn taken_reply(same: bool, edges: u16, anchor: Point) -> Result<Answer, Refusal>
+    ensures { result ≡ cond same (Ok (Answer.Same edges anchor)) (Ok (Answer.Taken edges anchor)) }
 {
     if same {
-        Reply::Same { edges, anchor }
+        Ok(Answer::Same { edges, anchor })
     } else {
-        Reply::Taken { edges, anchor }
+        Ok(Answer::Taken { edges, anchor })
     }
 }
 
@@ -77,13 +88,10 @@ pub fn prepare_outline(
     let mut list = [0i16; MOST_NUMBERS];
     let verdict = judge::judge(start, letters, &mut list);
     match verdict {
-        Verdict::Refused(why) => Prepared {
-            reply: Reply::Refused(why),
-            word: 0,
-        },
-        Verdict::Taken { edges, anchor } => {
+        Err(why) => Prepared::refused(why),
+        Ok(Taken { edges, anchor }) => {
             let own = slot_of(p, heads[PLACE_WORDS + (PLACES * p + k)]);
-            let same = has(&numbers[..], &heads[..], own, anchor, &list, edges);
+            let same = has(numbers, heads, own, anchor, &list, edges);
             let tag = free_tag(heads, p);
             let slot = OWN * p + tag;
             fill(
@@ -109,34 +117,26 @@ pub fn prepare(
         (arrays letters.now rows.new numbers.new heads.new)
         ≡ prepare_of (arrays letters.now rows.old numbers.old heads.old) party place }
 {
-    let p = party as usize;
+    // A bad place ends the draft before it is refused, and a refusal has a word beside it: a `?` cannot pass it on.
+    let p = usize::from(party);
     if PARTIES <= p {
-        return Prepared {
-            reply: Reply::Refused(Refusal::Party),
-            word: 0,
-        };
+        return Prepared::refused(Refusal::Party);
     }
     let at = DRAFT_NUMBERS * p;
-    let k = place as usize;
+    let k = usize::from(place);
     if PLACES <= k {
         heads[at] = 0;
-        return Prepared {
-            reply: Reply::Refused(Refusal::Place),
-            word: 0,
-        };
+        return Prepared::refused(Refusal::Place);
     }
     if heads[at] == 0 {
-        return Prepared {
-            reply: Reply::Refused(Refusal::NoDraft),
-            word: 0,
-        };
+        return Prepared::refused(Refusal::NoDraft);
     }
     let start = Point {
         col: heads[at + 1],
         row: heads[at + 2],
     };
-    let count = wide(heads[at + 3]);
-    let outline = sent(&letters[..], p, count);
+    let count = usize::from(heads[at + 3]);
+    let outline = sent(letters, p, count);
     let prepared = prepare_outline(rows, numbers, heads, p, k, start, outline);
     heads[at] = 0;
     prepared
@@ -146,11 +146,12 @@ pub fn prepare(
 pub fn commit(heads: &mut [u16; HEADS], party: u8, place: u8, word: u16)
     ensures { heads.new ≡ commit_of heads.old party place word }
 {
-    let p = party as usize;
+    // Nothing is refused here, so there is no error to pass on.
+    let p = usize::from(party);
     if PARTIES <= p {
         return;
     }
-    let k = place as usize;
+    let k = usize::from(place);
     if PLACES <= k {
         return;
     }
@@ -168,7 +169,7 @@ pub fn close(
     heads: &mut [u16; HEADS],
     party: u8,
     place: u8,
-) -> Reply
+) -> Result<Answer, Refusal>
     ensures { reply result (arrays letters.now rows.new numbers.new heads.new)
         ≡ answer_of (arrays letters.now rows.old numbers.old heads.old)
         (by party (Action.Close place)) }

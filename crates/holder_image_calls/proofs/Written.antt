@@ -3,8 +3,7 @@ use Prim.Native.Nat.{ℕ}
 use mathlib.Core.Path.{◌≡◌, ap, ◌∙◌}
 use mathlib.Core.List.{List}
 use Rattle.chart.specs.Fields.{numbers_of}
-use Rattle.calls.specs.Replies.{reply_fields}
-use Rattle.calls.specs.declared.Reply.{Reply}
+use Rattle.calls.specs.Replies.{Reply, reply_fields}
 use Rattle.holder_memory.specs.Layout.{Holder}
 use Rattle.holder_answers.specs.Arrays.{Preparation, preparation}
 use Rattle.holder_images.specs.Arrays.{Saved, saved, save_of, prepare_image_of}

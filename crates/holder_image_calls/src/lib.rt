@@ -1,4 +1,5 @@
-// Check, save and the first half of a restore, with the reply in seven numbers (contract 10.1 and 13.4 to 13.6).
+// Check, save and the first half of a restore, with the reply in seven numbers (contract 10.1 and 13.4 to 13.6). Their parameters come one
+// by one: the C interface names them so.
 #![tactic(auto)]
 
 ghost use Rattle.std.specs.Prelude.{◌≡◌, List, ℕ};

@@ -5,59 +5,59 @@ use mathlib.Core.List.{List, ◌++◌}
 use lib.ListN.{length, take, drop}
 use borrow.Author.Tests.{le-leb, lt-leb, lt-ltb, le-ltb}
 use Rattle.chart.specs.Limits.{side, longest}
-use Rattle.chart.specs.declared.Point.{Point}
-use Rattle.chart.specs.declared.Refusal.TheVariants.{LetterBuffer, Party, Place, Damaged}
+use Rattle.std.specs.Prelude.{Result, Ok, Err}
+use Rattle.chart.specs.declared.Refusal.{Refusal}
+use Rattle.chart.specs.declared.Refusal.TheVariants.{LetterBuffer, Party, Place}
 use Rattle.chart.specs.Outline.{outline}
 use Rattle.calls.specs.Calls.{parties, places}
-use Rattle.calls.specs.declared.Reply.TheVariants.{Done, Refused}
+use Rattle.calls.specs.declared.Answer.TheVariants.{Done}
 use Rattle.images.specs.Image.{image_bytes, image_of}
 use Rattle.holder_memory.specs.Layout.{Holder}
-use Rattle.holder_images.specs.declared.Held.TheVariants.{Whole, Damaged as IsDamaged}
+use Rattle.holder_images.specs.declared.Held.{Held}
 use Rattle.holder_images.specs.Arrays.{check_of, saved, save_of}
-use Rattle.holder_images.specs.parts.Found.{Holds}
+use Rattle.holder_images.specs.parts.Found.{Holds, HeldAt}
 
-pub check-no-party : (h : Holder) (p k : ℕ) → parties ≤ p → (Refused Party) ≡ check_of h p k
-unfolding check_of
-check-no-party h p k e = rw (le-leb parties p e)
+pub held-no-party : (h : Holder) (p k : ℕ) (l : List ℕ) → parties ≤ p → HeldAt h p k l (Err Party)
+unfolding HeldAt check_of save_of
+held-no-party h p k l e = (rw (le-leb parties p e), λ b. rw (le-leb parties p e))
 
-pub save-no-party : (h : Holder) (p k : ℕ) (b : List ℕ) → parties ≤ p → saved (Refused Party) b ≡ save_of h p k b
-unfolding save_of
-save-no-party h p k b e = rw (le-leb parties p e)
+module _ (h : Holder) (p : ℕ) (there : p < parties) (k : ℕ) (l : List ℕ) where
+  pub held-no-place : places ≤ k → HeldAt h p k l (Err Place)
+  unfolding HeldAt check_of save_of
+  held-no-place e = (rw (lt-leb parties p there, le-leb places k e), λ b. rw (lt-leb parties p there, le-leb places k e))
 
-module _ (h : Holder) (p : ℕ) (there : p < parties) (k : ℕ) where
-  pub check-no-place : places ≤ k → (Refused Place) ≡ check_of h p k
-  unfolding check_of
-  check-no-place e = rw (lt-leb parties p there, le-leb places k e)
+  pub held-found : k < places → (r : Result Held Refusal) → Holds h p k l r → HeldAt h p k l r
+  unfolding HeldAt Holds check_of save_of
+  held-found m (Err why) f =
+      (rw (f.0, lt-leb parties p there, lt-leb places k m, f.1), λ b. rw (f.0, lt-leb parties p there, lt-leb places k m, f.1))
+  held-found m (Ok x) f = (there, m, f)
 
-  pub save-no-place : (b : List ℕ) → places ≤ k → saved (Refused Place) b ≡ save_of h p k b
-  unfolding save_of
-  save-no-place b e = rw (lt-leb parties p there, le-leb places k e)
+module _ (h : Holder) (p k : ℕ) (l : List ℕ) where
+  module _ (why : Refusal) (f : HeldAt h p k l (Err why)) where
+    pub check-refused : Err why ≡ check_of h p k
+    unfolding HeldAt
+    check-refused = f.0
 
-  module _ (m : k < places) (l : List ℕ) where
-    pub check-damaged : Holds h p k l IsDamaged → Refused Damaged ≡ check_of h p k
-    unfolding check_of Holds
-    check-damaged f = rw (lt-leb parties p there, lt-leb places k m, f)
+    pub save-refused : (b : List ℕ) → saved (Err why) b ≡ save_of h p k b
+    unfolding HeldAt
+    save-refused b = f.1 b
 
-    pub save-damaged : (b : List ℕ) → Holds h p k l IsDamaged → saved (Refused Damaged) b ≡ save_of h p k b
-    unfolding save_of Holds
-    save-damaged b f = rw (lt-leb parties p there, lt-leb places k m, f)
+  module _ (x : Held) (f : HeldAt h p k l (Ok x)) where
+    pub check-whole : Ok Done ≡ check_of h p k
+    unfolding HeldAt Holds check_of
+    check-whole = rw (lt-leb parties p f.0, lt-leb places k f.1, f.2.0)
 
-    module _ (s : Point) (n : ℕ) (f : Holds h p k l (Whole s n)) where
-      pub check-whole : Done ≡ check_of h p k
-      unfolding check_of Holds
-      check-whole = rw (lt-leb parties p there, lt-leb places k m, f.0)
+    pub save-short : (b : List ℕ) → length b < image_bytes → saved (Err LetterBuffer) b ≡ save_of h p k b
+    unfolding HeldAt Holds save_of
+    save-short b e = rw (lt-leb parties p f.0, lt-leb places k f.1, f.2.0, lt-ltb (length b) image_bytes e)
 
-      pub save-short : (b : List ℕ) → length b < image_bytes → saved (Refused LetterBuffer) b ≡ save_of h p k b
-      unfolding save_of Holds
-      save-short b e = rw (lt-leb parties p there, lt-leb places k m, f.0, lt-ltb (length b) image_bytes e)
+    pub save-whole : (b : List ℕ) → image_bytes ≤ length b → (i : List ℕ) → i ≡ image_of (outline x.start (take x.count l))
+        → saved (Ok Done) (i ++ drop image_bytes b) ≡ save_of h p k b
+    unfolding HeldAt Holds save_of
+    save-whole b e i is =
+        rw (lt-leb parties p f.0, lt-leb places k f.1, f.2.0, le-ltb (length b) image_bytes e)
+        (ap (λ (x : List ℕ). saved (Ok Done) (x ++ drop image_bytes b)) (is ∙ ap image_of f.2.1))
 
-      pub save-whole : (b : List ℕ) → image_bytes ≤ length b → (i : List ℕ) → i ≡ image_of (outline s (take n l))
-          → saved Done (i ++ drop image_bytes b) ≡ save_of h p k b
-      unfolding save_of Holds
-      save-whole b e i is =
-          rw (lt-leb parties p there, lt-leb places k m, f.0, le-ltb (length b) image_bytes e)
-          (ap (λ (x : List ℕ). saved Done (x ++ drop image_bytes b)) (is ∙ ap image_of f.1))
-
-      pub held_fits : (n ≤ longest) × (s.col < side) × (s.row < side)
-      unfolding Holds
-      held_fits = (f.2, f.3, f.4)
+    pub held_fits : (x.count ≤ longest) × (x.start.col < side) × (x.start.row < side)
+    unfolding HeldAt Holds
+    held_fits = (f.2.2, f.2.3, f.2.4)

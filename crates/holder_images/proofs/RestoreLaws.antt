@@ -6,15 +6,16 @@ use mathlib.Core.Bool.{true, false}
 use mathlib.Core.List.{List, [], ◌∷◌}
 use lib.ListN.{length, take, drop, length-take, length-drop}
 use borrow.Author.Tests.{le-leb, lt-leb}
+use Rattle.std.specs.Prelude.{Some, None, Ok, Err}
 use Rattle.base.proofs.BelowLaws.{not-held}
 use Rattle.chart.specs.Limits.{longest}
 use Rattle.chart.specs.declared.Point.{Point}
 use Rattle.chart.specs.declared.Refusal.TheVariants.{Party, Place, Image}
 use Rattle.chart.specs.Outline.{Outline, outline}
 use Rattle.calls.specs.Calls.{parties, places}
-use Rattle.calls.specs.declared.Reply.{Reply}
-use Rattle.calls.specs.declared.Reply.TheVariants.{Done, Refused}
-use Rattle.images.specs.declared.Found.TheVariants.{NotImage, Outline as OfOutline}
+use Rattle.calls.specs.Replies.{Reply}
+use Rattle.calls.specs.declared.Answer.TheVariants.{Done}
+use Rattle.images.specs.declared.Record.{Record}
 use Rattle.images.specs.Image.{header, image_bytes, held_in, is_image, Reads}
 use Rattle.images.proofs.Images.{image-iff}
 use Rattle.holder_memory.specs.Layout.{Holder, spot}
@@ -23,12 +24,12 @@ use Rattle.holder_images.specs.Arrays.{image_prepared, prepare_image_of, restore
 
 -- ---- what the bytes are read as
 
-pub read_none : (b : List ℕ) → Reads b NotImage → is_image b ≡ false
+pub read_none : (b : List ℕ) → Reads b None → is_image b ≡ false
 unfolding Reads
 read_none b none = not-held (is_image b) (λ e. none (held_in b) ((image-iff b).0 e))
 
-module _ (b : List ℕ) (s : Point) (n : ℕ) (h : Reads b (OfOutline s n)) where
-  pub read_count : (n ≤ longest) × (length b ≡ image_bytes)
+module _ (b : List ℕ) (f : Record) (h : Reads b (Some f)) where
+  pub read_count : (f.count ≤ longest) × (length b ≡ image_bytes)
   unfolding Reads
   read_count = (h.3, h.0)
 
@@ -36,40 +37,40 @@ module _ (b : List ℕ) (s : Point) (n : ℕ) (h : Reads b (OfOutline s n)) wher
   unfolding Reads
   read-image = (image-iff b).1 h.4
 
-  read_held : held_in b ≡ outline s (take n (drop header b))
+  read_held : held_in b ≡ outline f.start (take f.count (drop header b))
   unfolding Reads held_in
   read_held = ap₂ outline (sym h.1) (ap (λ (j : ℕ). take j (drop header b)) (sym h.2))
 
-  read-long : length (take n (drop header b)) ≡ n
-  read-long = omega (arith, length-take n (drop header b), length-drop header b, read_count)
+  read-long : length (take f.count (drop header b)) ≡ f.count
+  read-long = omega (arith, length-take f.count (drop header b), length-drop header b, read_count)
 
 -- ---- the first half
 
-pub image-no-party : (h : Holder) (p k : ℕ) (b : List ℕ) → parties ≤ p → preparation (Refused Party) 0 h ≡ prepare_image_of h p k b
+pub image-no-party : (h : Holder) (p k : ℕ) (b : List ℕ) → parties ≤ p → preparation (Err Party) 0 h ≡ prepare_image_of h p k b
 unfolding prepare_image_of
 image-no-party h p k b e = rw (le-leb parties p e)
 
 module _ (h : Holder) (p : ℕ) (there : p < parties) (k : ℕ) where
-  pub image-no-place : (b : List ℕ) → places ≤ k → preparation (Refused Place) 0 h ≡ prepare_image_of h p k b
+  pub image-no-place : (b : List ℕ) → places ≤ k → preparation (Err Place) 0 h ≡ prepare_image_of h p k b
   unfolding prepare_image_of
   image-no-place b e = rw (lt-leb parties p there, le-leb places k e)
 
   module _ (m : k < places) (b : List ℕ) where
-    pub image-none : Reads b NotImage → preparation (Refused Image) 0 h ≡ prepare_image_of h p k b
+    pub image-none : Reads b None → preparation (Err Image) 0 h ≡ prepare_image_of h p k b
     unfolding prepare_image_of
     image-none r = rw (lt-leb parties p there, lt-leb places k m, read_none b r)
 
-    module _ (s : Point) (n : ℕ) (r : Reads b (OfOutline s n)) where
+    module _ (f : Record) (r : Reads b (Some f)) where
       abbrev letters : List ℕ
-      letters = take n (drop header b)
+      letters = take f.count (drop header b)
 
-      image-read : prepare_image_of h p k b ≡ image_prepared h p k (outline s letters) letters
+      image-read : prepare_image_of h p k b ≡ image_prepared h p k (outline f.start letters) letters
       unfolding prepare_image_of
       image-read =
-          rw (lt-leb parties p there, lt-leb places k m, read-image b s n r)
-          (ap (λ (o : Outline). image_prepared h p k o o.letters) (read_held b s n r))
+          rw (lt-leb parties p there, lt-leb places k m, read-image b f r)
+          (ap (λ (o : Outline). image_prepared h p k o o.letters) (read_held b f r))
 
-      none : (o : Outline) (l : List ℕ) → length l ≡ 0 → image_prepared h p k o l ≡ preparation Done 0 (worded h (spot p k) 0)
+      none : (o : Outline) (l : List ℕ) → length l ≡ 0 → image_prepared h p k o l ≡ preparation (Ok Done) 0 (worded h (spot p k) 0)
       unfolding image_prepared
       none o [] e = refl
       none o (a ∷ l) e = absurd (omega (arith, e))
@@ -79,14 +80,14 @@ module _ (h : Holder) (p : ℕ) (there : p < parties) (k : ℕ) where
       some o [] e = absurd (e refl)
       some o (a ∷ l) e = refl
 
-      pub image-empty : n ≡ 0 → preparation Done 0 (worded h (spot p k) 0) ≡ prepare_image_of h p k b
-      image-empty e = sym (image-read ∙ none (outline s letters) letters (read-long b s n r ∙ e))
+      pub image-empty : f.count ≡ 0 → preparation (Ok Done) 0 (worded h (spot p k) 0) ≡ prepare_image_of h p k b
+      image-empty e = sym (image-read ∙ none (outline f.start letters) letters (read-long b f r ∙ e))
 
-      pub image-outline : (n ≡ 0 → ⊥) → (l : List ℕ) → l ≡ letters → (q : Preparation) → q ≡ outline_prepared h p k (outline s l)
+      pub image-outline : (f.count ≡ 0 → ⊥) → (l : List ℕ) → l ≡ letters → (q : Preparation) → q ≡ outline_prepared h p k (outline f.start l)
           → q ≡ prepare_image_of h p k b
       image-outline e l is q prepared =
-          prepared ∙ ap (λ (x : List ℕ). outline_prepared h p k (outline s x)) is
-          ∙ sym (image-read ∙ some (outline s letters) letters (λ z. e (sym (read-long b s n r) ∙ z)))
+          prepared ∙ ap (λ (x : List ℕ). outline_prepared h p k (outline f.start x)) is
+          ∙ sym (image-read ∙ some (outline f.start letters) letters (λ z. e (sym (read-long b f r) ∙ z)))
 
 -- ---- both halves
 

@@ -2,6 +2,7 @@
 use Prim.Native.Nat.{ℕ, ◌≤◌, ◌<◌}
 use native.Mathlib.Omega.{arith}
 use mathlib.Core.Path.{◌≡◌, refl, sym, ap, ap₂, subst, ◌∙◌}
+use Rattle.std.specs.Prelude.{Result, Ok}
 use mathlib.Core.Logic.{◌↔◌}
 use mathlib.Core.Bool.{Bool, true, false, ◌&&◌, and-eq-true_iff}
 use mathlib.Core.List.{List}
@@ -23,8 +24,7 @@ use Rattle.spans.specs.Spans.{spans_of}
 use Rattle.spans.proofs.Exact.{same-border}
 use Rattle.polygon.specs.Loose.{bad_cell}
 use Rattle.polygon.proofs.Taken.{taken-anchored}
-use Rattle.border_model.specs.declared.Traced.{Traced}
-use Rattle.border_model.specs.declared.Traced.TheVariants.{Written}
+use Rattle.chart.specs.declared.Refusal.{Refusal}
 use Rattle.border_model.specs.Traced.{traced_of, traced_fields}
 use Rattle.border_model.specs.Named.{BorderOf, BorderNamed}
 use Rattle.border_model.specs.Outlined.{TakenAs, outlined}
@@ -35,9 +35,10 @@ use Rattle.images.proofs.Images.{same-bytes-iff}
 use Rattle.holder_records.specs.Work.{Work, work_edges}
 use Rattle.holder_memory.specs.Layout.{Holder, slots, work_at}
 use Rattle.holder_answers.specs.Arrays.{slot_in}
-use Rattle.holder_images.specs.declared.Held.TheVariants.{Whole, Damaged}
+use Rattle.std.specs.Prelude.{Err}
+use Rattle.chart.specs.declared.Refusal.TheVariants.{Damaged}
 use Rattle.holder_images.specs.Whole.{same_spans, WorkOf, own_border, whole, word_in, whole_at, border_in}
-use Rattle.holder_images.specs.parts.Found.{Holds}
+use Rattle.holder_images.specs.parts.Found.{whole_with, Holds}
 
 pub same-spans-iff : (x y : Spans) → (same_spans x y ≡ true) ↔ (x ≡ y)
 unfolding same_spans
@@ -89,7 +90,7 @@ whole-iff w =
 -- ---- what a border call says
 
 module _ (w : Work) (a : Point) (es : List ℤ) (ea : a ≡ w.anchor) (ee : es ≡ work_edges w)
-    (before after : List ℕ) (room : length before ≡ longest) (t : Traced) (said : t ≡ traced_of a es (length before))
+    (before after : List ℕ) (room : length before ≡ longest) (t : Result ℕ Refusal) (said : t ≡ traced_of a es (length before))
     (named : BorderNamed a es (traced_fields t) before after) where
   to-work : (o : Outline) → TakenAs o a es → TakenAs o w.anchor (work_edges w)
   to-work o k = subst (λ (x : Point). TakenAs o x (work_edges w)) ea (subst (TakenAs o a) ee k)
@@ -97,10 +98,10 @@ module _ (w : Work) (a : Point) (es : List ℤ) (ea : a ≡ w.anchor) (ee : es �
   of-work : (o : Outline) → TakenAs o w.anchor (work_edges w) → TakenAs o a es
   of-work o k = subst (TakenAs o a) (sym ee) (subst (λ (x : Point). TakenAs o x (work_edges w)) (sym ea) k)
 
-  module _ (n : ℕ) (e : t ≡ Written n) where
+  module _ (n : ℕ) (e : t ≡ Ok n) where
     traced-border : BorderOf a es (take n after)
     unfolding traced_fields
-    traced-border = (subst (λ (x : Traced). BorderNamed a es (traced_fields x) before after) e named).written refl
+    traced-border = (subst (λ (x : Result ℕ Refusal). BorderNamed a es (traced_fields x) before after) e named).written refl
 
     traced-own : take n after ≡ letters_from es
     traced-own =
@@ -115,7 +116,7 @@ module _ (w : Work) (a : Point) (es : List ℤ) (ea : a ≡ w.anchor) (ee : es �
     traced-count =
         let b = traced-border in
         let v : Outline = outline a (take n after) in
-        let f : Written n ≡ Written (size v) = sym e ∙ said ∙ (own-suffices b.taken before (omega arith)).0 in
+        let f : ◌≡◌ {A = Result ℕ Refusal} (Ok n) (Ok (size v)) = sym e ∙ said ∙ (own-suffices b.taken before (omega arith)).0 in
         let g : n ≡ size v = cc in
         omega (arith, g, (walked v (taken-has b.taken).reaches.simple).short)
 
@@ -135,7 +136,7 @@ module _ (w : Work) (a : Point) (es : List ℤ) (ea : a ≡ w.anchor) (ee : es �
         not-held (whole w)
         (λ y. let k = ((whole-iff w).0 y).1 in differ ((own-work w k.0 k.1).rows ∙ ap spans_of (sym own_is)))
 
-  pub found_none : ((n : ℕ) → t ≡ Written n → ⊥) → whole w ≡ false
+  pub found_none : ((n : ℕ) → t ≡ Ok n → ⊥) → whole w ≡ false
   found_none never =
       not-held (whole w)
       (λ y.
@@ -145,7 +146,7 @@ module _ (w : Work) (a : Point) (es : List ℤ) (ea : a ≡ w.anchor) (ee : es �
 -- ---- a place
 
 module _ (h : Holder) (p k : ℕ) (l : List ℕ) where
-  pub holds-nothing : word_in h p k ≡ 0 → Holds h p k l (Whole (at 0 0) 0)
+  pub holds-nothing : word_in h p k ≡ 0 → Holds h p k l (whole_with (at 0 0) 0)
   unfolding Holds whole_at border_in
   holds-nothing e =
       let z = eq-eqb (word_in h p k) 0 e in
@@ -155,18 +156,18 @@ module _ (h : Holder) (p k : ℕ) (l : List ℕ) where
     abbrev work : Work
     work = work_at h.rows h.numbers h.heads u
 
-    pub holds-damaged : whole work ≡ false → Holds h p k l Damaged
+    pub holds-damaged : whole work ≡ false → Holds h p k l (Err Damaged)
     unfolding Holds whole_at
-    holds-damaged e = rw (ne_eqb (word_in h p k) 0 one, ← at-u, e) refl
+    holds-damaged e = (refl, rw (ne_eqb (word_in h p k) 0 one, ← at-u, e) refl)
 
-    pub holds-idle : slots ≤ u → Holds h p k l Damaged
+    pub holds-idle : slots ≤ u → Holds h p k l (Err Damaged)
     holds-idle e = holds-damaged (idle e)
       where
         idle : slots ≤ u → whole work ≡ false
         idle i = unfold whole in unfold work_at in rw (le-ltb u slots i) refl
 
     pub holds-whole : (s : Point) (n : ℕ) → whole work ≡ true → outline s (take n l) ≡ own_border work → n ≤ longest
-        → (s.col < side) × (s.row < side) → Holds h p k l (Whole s n)
+        → (s.col < side) × (s.row < side) → Holds h p k l (whole_with s n)
     unfolding Holds whole_at border_in
     holds-whole s n e own few low =
         let z = ne_eqb (word_in h p k) 0 one in

@@ -1,35 +1,35 @@
-// A place of a holder: whether it is whole, its image, and an outline from an image (contract 13.4 to 13.6).
+// A place of a holder: whether it is whole, its image, and an outline from an image (contract 13.4 to 13.6). The arrays of a holder come
+// one by one, and so do a party and its place: the C interface names them so.
 #![tactic(auto)]
 
 ghost use Rattle.std.specs.Prelude.{◌≡◌, ◌↔◌, true, List, ℕ, ◌+◌, ◌<◌, ◌≤◌, length};
-ghost use Rattle.chart.specs.Limits.{side, longest};
+ghost use Rattle.chart.specs.Limits.{side};
 ghost use Rattle.chart.specs.Outline.{outline};
 ghost use Rattle.calls.specs.Calls.{parties, places};
 ghost use Rattle.spans.specs.Spans.{spans_of};
 ghost use Rattle.windows.specs.Windows.{window};
 ghost use Rattle.span_list.specs.SpanList.{spans_at};
-ghost use Rattle.holder_memory.specs.Layout.{arrays, slots, row_bytes, edge_numbers, head_numbers};
+ghost use Rattle.holder_memory.specs.Layout.{arrays, slots, row_bytes};
 ghost use Rattle.holder_answers.specs.Arrays.{preparation, reply};
 ghost use Rattle.holder_images.specs.Arrays.{check_of, saved, save_of, prepare_image_of, restore_of};
-ghost use Rattle.holder_images.specs.parts.Found.{Holds};
+ghost use Rattle.holder_images.specs.parts.Found.{Holds, HeldAt};
 
-use border_model::Traced;
-use calls::{PARTIES, PLACES, Reply};
+use calls::{Answer, PARTIES, PLACES, party_index, place_index};
 use chart::{LONGEST, Point, Refusal};
+use equality::same_bytes;
 use holder_closes::{Prepared, commit, prepare_outline};
 use holder_memory::naming::slot_of;
 use holder_memory::{HEADS, NUMBERS, PLACE_WORDS, ROW_BYTES, SLOTS};
 use holder_works::{anchor_at, edges_at};
-use images::{Found, HEADER, IMAGE};
+use images::{HEADER, IMAGE};
 use span_list::WIDTH;
 use spans::{ROWS, spans_of};
 
-// What a place holds: an outline, by its border's start and the count of its letters, none of them if the place is empty; or what no
-// taking leaves.
+// What a whole place holds: an outline, by its border's start and the count of its letters, none of them if the place is empty.
 #[derive(Clone, Copy)]
-enum Held {
-    Whole { start: Point, count: usize },
-    Damaged,
+struct Held {
+    start: Point,
+    count: usize,
 }
 
 // Whether 255 bytes stand in a list, from an index on.
@@ -37,18 +37,12 @@ fn stands(own: &[u8; ROWS], at: usize, rows: &[u8]) -> bool
     requires { at + side ≤ length rows.now }
     ensures { (result ≡ true) ↔ (window at side rows.now ≡ own.now) }
 {
-    let all = &own[..];
-    let mut i = 0;
-    while i < ROWS {
-        if rows[at + i] != all[i] {
-            return false;
-        }
-        i += 1;
-    }
-    true
+    same_bytes(&rows[at..at + ROWS], own)
 }
 
-// Whether the rows in a slot are those of an outline.
+// Whether the rows in a slot are those of an outline. It is no part of its callers, so that its rows and a border that is being written are
+// never on the stack at once.
+#[inline(never)]
 fn same_rows(rows: &[u8], slot: usize, start: Point, letters: &[u8]) -> bool
     requires { (slot < slots) × (length rows.now ≡ row_bytes) }
     ensures { (result ≡ true) ↔ (spans_at rows.now slot ≡ spans_of (outline start letters.now)) }
@@ -61,41 +55,60 @@ fn same_rows(rows: &[u8], slot: usize, start: Point, letters: &[u8]) -> bool
     stands(&own.past, at + ROWS, rows)
 }
 
-// What a place holds, and the letters of its border.
-fn find(rows: &[u8], numbers: &[i16], heads: &[u16], p: usize, k: usize, letters: &mut [u8]) -> Held
-    requires { (p < parties) × (k < places) × (length rows.now ≡ row_bytes) × (length numbers.now ≡ edge_numbers)
-        × (length heads.now ≡ head_numbers) × (length letters.old ≡ longest) }
+// What a place holds, and the letters of its border. 27 if no taking leaves what stands there.
+fn find(
+    rows: &[u8; ROW_BYTES],
+    numbers: &[i16; NUMBERS],
+    heads: &[u16; HEADS],
+    p: usize,
+    k: usize,
+    letters: &mut [u8; LONGEST],
+) -> Result<Held, Refusal>
+    requires { (p < parties) × (k < places) }
     ensures { (own : List ℕ)
         → Holds (arrays own rows.now numbers.now heads.now) p k letters.new result }
 {
     let word = heads[PLACE_WORDS + (PLACES * p + k)];
     if word == 0 {
-        return Held::Whole {
-            start: Point { col: 0, row: 0 },
-            count: 0,
-        };
+        let start = Point { col: 0, row: 0 };
+        return Ok(Held { start, count: 0 });
     }
     let slot = slot_of(p, word);
     if SLOTS <= slot {
-        return Held::Damaged;
+        return Err(Refusal::Damaged);
     }
     let anchor = anchor_at(heads, slot);
     let list = edges_at(numbers, heads, slot);
-    let traced = border::border(anchor, list, letters);
+    let traced = border::border(anchor, list, &mut letters[..]);
     match traced {
-        Traced::Written { letters: n } => {
-            let count = n as usize;
-            if same_rows(rows, slot, anchor, &letters[..count]) {
-                Held::Whole {
-                    start: anchor,
-                    count,
-                }
+        Ok(n) => {
+            let count = usize::from(n);
+            if same_rows(&rows[..], slot, anchor, &letters[..count]) {
+                let start = anchor;
+                Ok(Held { start, count })
             } else {
-                Held::Damaged
+                Err(Refusal::Damaged)
             }
         }
-        Traced::Refused(_) => Held::Damaged,
+        Err(_) => Err(Refusal::Damaged),
     }
+}
+
+// What is held at any place of any party: 19, 20, 27, or as found there.
+fn held_at<'a>(
+    rows: &'a [u8; ROW_BYTES],
+    numbers: &'a [i16; NUMBERS],
+    heads: &'a [u16; HEADS],
+    party: u8,
+    place: u8,
+    letters: &mut [u8; LONGEST],
+) -> Result<Held, Refusal>
+    ensures { (own : List ℕ)
+        → HeldAt (arrays own rows.now numbers.now heads.now) party place letters.new result }
+{
+    let p = party_index(party)?;
+    let k = place_index(place)?;
+    find(rows, numbers, heads, p, k, letters)
 }
 
 // 19, 20, 27, or the place is whole.
@@ -105,23 +118,13 @@ pub fn check<'a>(
     heads: &'a [u16; HEADS],
     party: u8,
     place: u8,
-) -> Reply
+) -> Result<Answer, Refusal>
     ensures { (letters : List ℕ)
         → result ≡ check_of (arrays letters rows.now numbers.now heads.now) party place }
 {
-    let p = party as usize;
-    if PARTIES <= p {
-        return Reply::Refused(Refusal::Party);
-    }
-    let k = place as usize;
-    if PLACES <= k {
-        return Reply::Refused(Refusal::Place);
-    }
     let mut letters = [0u8; LONGEST];
-    match find(&rows[..], &numbers[..], &heads[..], p, k, &mut letters) {
-        Held::Whole { start: _, count: _ } => Reply::Done,
-        Held::Damaged => Reply::Refused(Refusal::Damaged),
-    }
+    held_at(rows, numbers, heads, party, place, &mut letters)?;
+    Ok(Answer::Done)
 }
 
 // 19, 20, 27, 18, or the image of the place stands first in the buffer.
@@ -132,34 +135,23 @@ pub fn save<'a>(
     party: u8,
     place: u8,
     image: &mut [u8],
-) -> Reply
+) -> Result<Answer, Refusal>
     ensures { (letters : List ℕ) → saved result image.new
         ≡ save_of (arrays letters rows.now numbers.now heads.now) party place image.old }
 {
-    let p = party as usize;
-    if PARTIES <= p {
-        return Reply::Refused(Refusal::Party);
-    }
-    let k = place as usize;
-    if PLACES <= k {
-        return Reply::Refused(Refusal::Place);
-    }
     let mut letters = [0u8; LONGEST];
-    match find(&rows[..], &numbers[..], &heads[..], p, k, &mut letters) {
-        Held::Whole { start, count } => {
-            if image.len() < IMAGE {
-                return Reply::Refused(Refusal::LetterBuffer);
-            }
-            images::write(
-                start.col as u8,
-                start.row as u8,
-                &letters[..count],
-                &mut image[..IMAGE],
-            );
-            Reply::Done
-        }
-        Held::Damaged => Reply::Refused(Refusal::Damaged),
+    let held = held_at(rows, numbers, heads, party, place, &mut letters)?;
+    if image.len() < IMAGE {
+        return Err(Refusal::LetterBuffer);
     }
+    let start = held.start;
+    images::write(
+        start.col as u8,
+        start.row as u8,
+        &letters[..held.count],
+        &mut image[..IMAGE],
+    );
+    Ok(Answer::Done)
 }
 
 // The first half of a restore: 19, 20, 26, or by the verdict on the image's outline. It writes no slot that any place names, and no draft.
@@ -177,35 +169,27 @@ pub fn prepare_image(
         ≡ prepare_image_of (arrays letters rows.old numbers.old heads.old) party place
         image.now }
 {
-    let p = party as usize;
+    // A refusal has a word beside it: a `?` cannot pass it on.
+    let p = usize::from(party);
     if PARTIES <= p {
-        return Prepared {
-            reply: Reply::Refused(Refusal::Party),
-            word: 0,
-        };
+        return Prepared::refused(Refusal::Party);
     }
-    let k = place as usize;
+    let k = usize::from(place);
     if PLACES <= k {
-        return Prepared {
-            reply: Reply::Refused(Refusal::Place),
-            word: 0,
-        };
+        return Prepared::refused(Refusal::Place);
     }
     match images::read(image) {
-        Found::NotImage => Prepared {
-            reply: Reply::Refused(Refusal::Image),
-            word: 0,
-        },
-        Found::Outline { start, count } => {
-            if count == 0 {
+        None => Prepared::refused(Refusal::Image),
+        Some(found) => {
+            if found.count == 0 {
                 heads[PLACE_WORDS + (PLACES * p + k)] = 0;
                 return Prepared {
-                    reply: Reply::Done,
+                    reply: Ok(Answer::Done),
                     word: 0,
                 };
             }
-            let end = HEADER + count;
-            prepare_outline(rows, numbers, heads, p, k, start, &image[HEADER..end])
+            let end = HEADER + found.count;
+            prepare_outline(rows, numbers, heads, p, k, found.start, &image[HEADER..end])
         }
     }
 }
@@ -218,7 +202,7 @@ pub fn restore(
     party: u8,
     place: u8,
     image: &[u8],
-) -> Reply
+) -> Result<Answer, Refusal>
     ensures { (letters : List ℕ)
         → reply result (arrays letters rows.new numbers.new heads.new)
         ≡ restore_of (arrays letters rows.old numbers.old heads.old) party place image.now }

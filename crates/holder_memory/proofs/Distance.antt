@@ -10,7 +10,7 @@ use Rattle.base.specs.Below.{every}
 use Rattle.base.proofs.BelowLaws.{every-at}
 use Rattle.holder_memory.specs.Layout.{own, slots, slot_own}
 use Rattle.holder_memory.specs.Words.{word_of, tag_of, slot_of, distance, apart, far_apart, far_from}
-use Rattle.holder_memory.proofs.Free.{slot-named, slot-none}
+use Rattle.holder_memory.proofs.Free.{slot-named, slot-none, word_own}
 
 pub words-apart : far_apart ≡ true
 unfolding far_apart every distance word_of
@@ -38,6 +38,13 @@ unfolding tag_of word_of
 names-word w =
     pick w 21845 0 _ refl (pick w 13107 1 _ refl (pick w 26214 2 _ refl (pick w 3855 3 _ refl
     (pick w 23130 4 5 refl (λ l. absurd (omega arith))))))
+
+-- A number names a slot exactly if it is its word
+pub word-tag : (w t : ℕ) → t < own → w ≡ word_of t → tag_of w ≡ t
+word-tag w t l e = rw e (word_own t l)
+
+pub other-tag : (w t : ℕ) → t < own → (w ≡ word_of t → ⊥) → tag_of w ≡ t → ⊥
+other-tag w t l differ e = differ (names-word w (rw e l) ∙ ap word_of e)
 
 none_or : (w : ℕ) → (tag_of w < own) ⊎ (own ≤ tag_of w)
 none_or w = go (ltb (tag_of w) own) refl

@@ -203,10 +203,11 @@ words-not-zero : every (λ t. not (eqb (word_of t) 0)) own ≡ true
 unfolding every word_of
 words-not-zero = refl
 
+pub word_own : (t : ℕ) → t < own → tag_of (word_of t) ≡ t
+word_own t l = eqb-true (tag_of (word_of t)) t (every-at (λ t. eqb (tag_of (word_of t)) t) own words-name t l)
+
 pub word-names : (p t : ℕ) → t < own → slot_of p (word_of t) ≡ slot_own p t
-word-names p t l =
-    let e : tag_of (word_of t) ≡ t = eqb-true (tag_of (word_of t)) t (every-at (λ t. eqb (tag_of (word_of t)) t) own words-name t l) in
-    sym (slot-named p (word_of t) t (sym e) l)
+word-names p t l = sym (slot-named p (word_of t) t (sym (word_own t l)) l)
 
 pub word-not-zero : (t : ℕ) → t < own → word_of t ≡ 0 → ⊥
 word-not-zero t l = eqb-false (word_of t) 0 (not-true _ (every-at (λ t. not (eqb (word_of t) 0)) own words-not-zero t l))

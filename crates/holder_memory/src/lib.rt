@@ -1,8 +1,6 @@
 // A holder in four arrays (contract 10.4): how long they are, and where everything stands in them.
 #![tactic(auto)]
 
-ghost use Rattle.std.specs.Prelude.{◌≡◌};
-
 use calls::{PARTIES, PLACES};
 use chart::{LONGEST, MOST_NUMBERS};
 use span_list::WIDTH;
@@ -36,10 +34,3 @@ pub const SLOT_HEADS: usize = PLACE_WORDS + PARTIES * PLACES;
 pub const SLOT_NUMBERS: usize = 3;
 
 pub const HEADS: usize = SLOT_HEADS + SLOT_NUMBERS * SLOTS;
-
-// A number of a head. As a function's result it is known to fit.
-pub fn wide(x: u16) -> usize
-    ensures { result ≡ x }
-{
-    x as usize
-}

@@ -1,6 +1,8 @@
-// The word that names each of a party's slots, and the slot that no place names.
-ghost use Rattle.std.specs.Prelude.{◌≡◌, ◌<◌};
+// The word that names each of a party's slots, and the slot that no place names. A party is an index of the arrays here. A struct with its
+// bound would be built in each call to be opened at once.
+ghost use Rattle.std.specs.Prelude.{◌≡◌, ◌<◌, MatchOption};
 ghost use Rattle.calls.specs.Calls.{parties};
+ghost use Rattle.holder_memory.specs.Layout.{own};
 ghost use Rattle.holder_memory.specs.Words.{word_of, tag_of, slot_of, named as named_in, free_tag};
 
 use crate::{HEADS, OWN, PLACE_WORDS, SLOTS};
@@ -31,41 +33,42 @@ pub fn word_of(tag: usize) -> u16
     }
 }
 
-// Which of a party's slots a number names, or 5 for none.
+// Which of a party's slots a number names.
 #[tactic(auto, unfolding(crate::specs::Words::tag_of))]
-fn tag_of(word: u16) -> usize
-    ensures { result ≡ tag_of word }
+fn tag_of(word: u16) -> Option<usize>
+    ensures { MatchOption result (tag_of word ≡ own) (λ tag. (tag ≡ tag_of word) × (tag < own)) }
 {
     match word {
-        WORD_0 => 0,
-        WORD_1 => 1,
-        WORD_2 => 2,
-        WORD_3 => 3,
-        WORD_4 => 4,
-        _ => OWN,
+        WORD_0 => Some(0),
+        WORD_1 => Some(1),
+        WORD_2 => Some(2),
+        WORD_3 => Some(3),
+        WORD_4 => Some(4),
+        _ => None,
     }
 }
 
-// The slot that a number at a place of the party names, or 10 for none.
+// The slot that a number at a place of the party names, or 10 for none: the public questions about a slot (`holder_works`) answer for
+// every number, and an option of a slot would ask more of their callers.
 pub fn slot_of(party: usize, word: u16) -> usize
     requires { party < parties }
     ensures { result ≡ slot_of party word }
 {
-    let tag = tag_of(word);
-    if tag < OWN { OWN * party + tag } else { SLOTS }
+    match tag_of(word) {
+        Some(tag) => OWN * party + tag,
+        None => SLOTS,
+    }
 }
 
-// Whether some place of the party names its slot.
+// Whether some place of the party has the word of its slot.
 fn named(heads: &[u16; HEADS], party: usize, tag: usize) -> bool
-    requires { party < parties }
+    requires { (party < parties) × (tag < own) }
     ensures { result ≡ named_in heads.now party tag }
 {
-    let mut k = 0;
-    while k < PLACES {
-        if tag_of(heads[PLACE_WORDS + (PLACES * party + k)]) == tag {
+    for k in 0..PLACES {
+        if heads[PLACE_WORDS + (PLACES * party + k)] == word_of(tag) {
             return true;
         }
-        k += 1;
     }
     false
 }
@@ -75,12 +78,10 @@ pub fn free_tag(heads: &[u16; HEADS], party: usize) -> usize
     requires { party < parties }
     ensures { result ≡ free_tag heads.now party }
 {
-    let mut t = 0;
-    while t < PLACES {
+    for t in 0..PLACES {
         if !named(heads, party, t) {
             return t;
         }
-        t += 1;
     }
     PLACES
 }

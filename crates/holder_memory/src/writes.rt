@@ -34,11 +34,5 @@ pub fn put_numbers(list: &[i16; MOST_NUMBERS], at: usize, buffer: &mut [i16])
     requires { at + most_numbers ≤ length buffer.old }
     ensures { buffer.new ≡ paste buffer.old at list.now most_numbers }
 {
-    let all = &list[..];
-    let mut i = 0;
-    while i < MOST_NUMBERS {
-        let number = all[i];
-        buffer[at + i] = number;
-        i += 1;
-    }
+    buffer[at..at + MOST_NUMBERS].copy_from_slice(&list[..]);
 }

@@ -1,4 +1,5 @@
 -- The outline last taken is at work, because what is at work at a place changes exactly if a call or a restore puts something there.
+use Rattle.std.specs.Prelude.{Result, Ok, Err}
 use Prim.Native.Nat.{ℕ}
 use native.Mathlib.Omega.{arith}
 use mathlib.Core.Path.{◌≡◌, refl, sym, ap, ◌∙◌}
@@ -12,8 +13,7 @@ use Rattle.chart.specs.Outline.{Outline}
 use Rattle.chart.specs.Fields.{refusal_fields}
 use Rattle.chart.proofs.RefusalLaws.{refusal-number}
 use Rattle.chart.specs.declared.Refusal.{Refusal}
-use Rattle.chart.specs.declared.Verdict.{Verdict}
-use Rattle.chart.specs.declared.Verdict.TheVariants.{Taken, Refused}
+use Rattle.chart.specs.declared.Taken.{Taken}
 use Rattle.verdict.specs.Verdict.{verdict_of}
 use Rattle.images.specs.Image.{is_image, held_in}
 use Rattle.holder_model.specs.Book.{Book, PartyModel, OnParty, Entry, Entered, Restored, at_work, drafted, fresh}
@@ -21,8 +21,7 @@ use Rattle.holder_model.specs.Book.{equals_work, closed_reply, work_after, close
 use Rattle.holder_model.specs.Book.{restored, entered, book_after}
 use Rattle.holder_model.specs.LastTaken.{left, put_back, left_by, mark, marks, last_or, last_taken}
 use Rattle.calls.specs.Calls.{bad_party, bad_place}
-use Rattle.calls.specs.Replies.{reply_fields}
-use Rattle.calls.specs.declared.Reply.{Reply}
+use Rattle.calls.specs.Replies.{Reply, reply_fields}
 use Rattle.calls.specs.declared.Action.{Action}
 use Rattle.calls.specs.declared.Action.TheVariants.{Begin, Add, Drop, Clear, Close, Ask}
 
@@ -37,12 +36,12 @@ clean r = eqb (reply_fields r).number 0
 -- ---- one action, on its party's state
 
 -- After a close its place has what the close put there, or what was there before
-closed-work : (w : Option Outline) (o : Outline) (t : Bool) (v : Verdict) (ms : List (Option Outline)) →
+closed-work : (w : Option Outline) (o : Outline) (t : Bool) (v : Result Taken Refusal) (ms : List (Option Outline)) →
     last_or w (cond (clean (closed_reply t v)) (some o ∷ []) [] ++ ms) ≡ last_or (work_after w o v) ms
 unfolding last_or reply_fields closed_reply work_after
-closed-work w o t (Refused f) ms = rw (refusal-numbered f)
-closed-work w o true (Taken n a) ms = refl
-closed-work w o false (Taken n a) ms = refl
+closed-work w o t (Err f) ms = rw (refusal-numbered f)
+closed-work w o true (Ok t) ms = refl
+closed-work w o false (Ok t) ms = refl
 
 close-work : (d w : Option Outline) (ms : List (Option Outline))
     → last_or w (cond (clean (closes d w).reply) (d ∷ []) [] ++ ms) ≡ last_or (closes d w).work ms

@@ -15,7 +15,7 @@ use Rattle.chart.specs.Outline.{Outline, at}
 use Rattle.chart.specs.declared.Point.{Point}
 use Rattle.chart.specs.declared.Fields.{Fields}
 use Rattle.chart.specs.Fields.{numbered, placed, worded, accepted, no_word, inside, outside, taken, same}
-use Rattle.chart.specs.declared.Verdict.TheVariants.{Taken}
+use Rattle.chart.specs.Taken.{taken_with}
 use Rattle.lattice.specs.Refusals.{Simple}
 use Rattle.verdict.proofs.Computes.{computes}
 use Rattle.calls.specs.Calls.{by}
@@ -97,8 +97,8 @@ same-h3-back = (same-border-iff h3-back h4 simple-h3-back simple-h4).1 refl
 -- The replies to H3, then H4, then H3 drawn backward, and three queries, depending on whether the blocks are the same
 by-words : Bool → Bool → List Fields
 by-words t u =
-    done 13 ++ (accepted taken 4 (at 0 1) ∷ (done 13 ++ (reply_fields (Book.closed_reply t (Taken 4 (at 0 1))) ∷
-    (done 13 ++ (reply_fields (Book.closed_reply u (Taken 4 (at 0 1))) ∷ worded inside ∷ worded outside ∷ numbered 11 ∷ [])))))
+    done 13 ++ (accepted taken 4 (at 0 1) ∷ (done 13 ++ (reply_fields (Book.closed_reply t (taken_with 4 (at 0 1))) ∷
+    (done 13 ++ (reply_fields (Book.closed_reply u (taken_with 4 (at 0 1))) ∷ worded inside ∷ worded outside ∷ numbered 11 ∷ [])))))
 
 -- H3, then H4, which is the same block from another start, then H3 drawn backward: "same" both times
 pub taken-then-same : replied

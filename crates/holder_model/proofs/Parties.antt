@@ -1,4 +1,5 @@
 -- A party's replies come from its own state, which no other party's call changes. So they are the replies to its own calls alone.
+use Rattle.std.specs.Prelude.{Err}
 use Prim.Native.Nat.{ℕ}
 use mathlib.Core.Path.{◌≡◌, refl, sym, ap, ap₂, ◌∙◌}
 use mathlib.Core.Bool.{Bool, true, false, cond}
@@ -9,16 +10,15 @@ use Rattle.base.specs.Put.{put}
 use Rattle.calls.specs.Calls.{bad_party, by}
 use Rattle.calls.specs.declared.Call.{Call}
 use Rattle.calls.specs.declared.Action.{Action}
-use Rattle.calls.specs.declared.Reply.{Reply}
+use Rattle.calls.specs.Replies.{Reply}
 use Rattle.chart.specs.declared.Refusal.TheVariants.{Party}
-use Rattle.calls.specs.declared.Reply.TheVariants.{Refused as WasRefused}
 use Rattle.holder_model.specs.Book.{Book, PartyModel, fresh, acts, answer, replies_from, replies}
 use Rattle.holder_model.specs.Parties.{calls_of, replies_to, acts_from}
 
 module _ (p : ℕ) where
   -- The reply to a call of party p, and the state of p after any call, from the state of p before
   replied_to : PartyModel → Action → Reply
-  replied_to g a = cond (bad_party p) (WasRefused Party) (acts g a).reply
+  replied_to g a = cond (bad_party p) (Err Party) (acts g a).reply
 
   turned : PartyModel → Call → PartyModel
   turned g c = cond (bad_party c.party) g (cond (eqb p c.party) (acts g c.action).page g)

@@ -2,7 +2,7 @@
 use Rattle.std.specs.Prelude.{ℕ, cond, List, [], ◌∷◌, eqb}
 use Rattle.calls.specs.declared.Call.{Call}
 use Rattle.calls.specs.declared.Action.{Action}
-use Rattle.calls.specs.declared.Reply.{Reply}
+use Rattle.calls.specs.Replies.{Reply}
 use Rattle.holder_model.specs.Book.{PartyModel, Entry, party_of, acts}
 
 -- The calls of party p, in their order

@@ -1,7 +1,7 @@
 -- What a call does to its party's draft and to the work at its place (contract 7.3 to 7.11).
-use Rattle.std.specs.Prelude.{ℕ, cond, List, ℤ}
-use Rattle.chart.specs.declared.Verdict.{Verdict}
-use Rattle.chart.specs.declared.Verdict.TheVariants.{Taken, Refused}
+use Rattle.std.specs.Prelude.{ℕ, cond, List, ℤ, Result, Ok, Err}
+use Rattle.chart.specs.declared.Refusal.{Refusal}
+use Rattle.chart.specs.declared.Taken.{Taken}
 use Rattle.chart.specs.declared.Refusal.TheVariants.{NoDraft, Place}
 use Rattle.judge.specs.declared.Judged.{Judged}
 use Rattle.judge.specs.Judged.{judged_of}
@@ -10,8 +10,8 @@ use Rattle.calls.specs.Calls.{bad_place}
 use Rattle.calls.specs.declared.Action.{Action}
 use Rattle.calls.specs.declared.Action.TheVariants.{Begin, Add, Drop, Clear, Close, Ask}
 use Rattle.calls.specs.declared.Question.{Question}
-use Rattle.calls.specs.declared.Reply.{Reply}
-use Rattle.calls.specs.declared.Reply.TheVariants.{Done, Taken as WasTaken, Same, Refused as WasRefused}
+use Rattle.calls.specs.Replies.{Reply}
+use Rattle.calls.specs.declared.Answer.TheVariants.{Done, Taken as WasTaken, Same}
 use Rattle.holder_records.specs.Draft.{Draft, Drafted, outline_of, end_of, begin_of, add_of, drop_of}
 use Rattle.holder_records.specs.Work.{Work, listed, replaced, removed, has_edges, answered}
 
@@ -32,19 +32,19 @@ redrafted a w = acted a.reply a.draft w
 -- ---- clear
 
 unfoldable pub clear_of : Draft → Work → ℕ → Acted
-clear_of d w k = cond (bad_place k) (acted (WasRefused Place) d w) (acted Done d (removed w))
+clear_of d w k = cond (bad_place k) (acted (Err Place) d w) (acted (Ok Done) d (removed w))
 
 -- ---- close
 
 -- The word is "same" if the taken draft's anchor and edges are at work
-unfoldable pub closed_reply : Work → List ℤ → Verdict → Reply
-closed_reply w es (Refused f) = WasRefused f
-closed_reply w es (Taken n a) = cond (has_edges w a (listed es n)) (Same n a) (WasTaken n a)
+unfoldable pub closed_reply : Work → List ℤ → Result Taken Refusal → Reply
+closed_reply w es (Err f) = Err f
+closed_reply w es (Ok t) = cond (has_edges w t.anchor (listed es t.edges)) (Ok (Same t.edges t.anchor)) (Ok (WasTaken t.edges t.anchor))
 
 -- A refusal leaves what is at work. A taken draft replaces it, with the edges that were found and its rows
-unfoldable pub closed_work : Draft → Work → List ℤ → Verdict → Work
-closed_work d w es (Refused f) = w
-closed_work d w es (Taken n a) = replaced a es n (spans_of (outline_of d))
+unfoldable pub closed_work : Draft → Work → List ℤ → Result Taken Refusal → Work
+closed_work d w es (Err f) = w
+closed_work d w es (Ok t) = replaced t.anchor es t.edges (spans_of (outline_of d))
 
 -- The draft ends in any case
 unfoldable pub closed_by : Draft → Work → Judged → Acted
@@ -53,13 +53,13 @@ closed_by d w j = acted (closed_reply w j.numbers j.verdict) (end_of d) (closed_
 -- A close refused by 20 ends the draft too
 unfoldable pub close_of : Draft → Work → ℕ → Acted
 close_of d w k =
-    cond (bad_place k) (acted (WasRefused Place) (end_of d) w)
-    (cond d.begun (closed_by d w (judged_of (outline_of d))) (acted (WasRefused NoDraft) d w))
+    cond (bad_place k) (acted (Err Place) (end_of d) w)
+    (cond d.begun (closed_by d w (judged_of (outline_of d))) (acted (Err NoDraft) d w))
 
 -- ---- questions about the work
 
 unfoldable pub ask_of : Draft → Work → ℕ → Question → Acted
-ask_of d w k q = acted (cond (bad_place k) (WasRefused Place) (answered w q)) d w
+ask_of d w k q = acted (cond (bad_place k) (Err Place) (answered w q)) d w
 
 -- ---- every action
 

@@ -1,12 +1,12 @@
 -- The draft of a party, and what begin, add and drop do to it (contract 7.3 to 7.5).
-use Rattle.std.specs.Prelude.{ℕ, ◌+◌, min, Bool, true, false, cond, List, take, set, leb, ltb}
+use Rattle.std.specs.Prelude.{ℕ, ◌+◌, min, Bool, true, false, cond, List, take, set, leb, ltb, Ok, Err}
 use Rattle.chart.specs.Limits.{longest}
 use Rattle.chart.specs.Outline.{Outline}
 use Rattle.chart.specs.declared.Point.{Point}
 use Rattle.chart.specs.declared.Refusal.TheVariants.{Start, Letter, NoDraft, DraftOpen, DraftFull}
 use Rattle.lattice.specs.Refusals.{bad_start}
-use Rattle.calls.specs.declared.Reply.{Reply}
-use Rattle.calls.specs.declared.Reply.TheVariants.{Done, Refused}
+use Rattle.calls.specs.Replies.{Reply}
+use Rattle.calls.specs.declared.Answer.TheVariants.{Done}
 
 -- Whether a draft is begun, its start, the space for its letters, and their count
 pub record Draft : Type 0 where
@@ -38,17 +38,17 @@ lengthened d a = record { begun = d.begun; start = d.start; letters = set d.lett
 
 unfoldable pub begin_of : Draft → Point → Drafted
 begin_of d s =
-    cond d.begun (record { reply = Refused DraftOpen; draft = d })
-    (cond (bad_start s) (record { reply = Refused Start; draft = d })
-    (record { reply = Done; draft = begun_at d s }))
+    cond d.begun (record { reply = Err DraftOpen; draft = d })
+    (cond (bad_start s) (record { reply = Err Start; draft = d })
+    (record { reply = Ok Done; draft = begun_at d s }))
 
 unfoldable pub add_of : Draft → ℕ → Drafted
 add_of d a =
     cond d.begun
-    (cond (leb longest d.letter_count) (record { reply = Refused DraftFull; draft = d })
-    (cond (ltb 3 a) (record { reply = Refused (Letter d.letter_count); draft = d })
-    (record { reply = Done; draft = lengthened d a })))
-    (record { reply = Refused NoDraft; draft = d })
+    (cond (leb longest d.letter_count) (record { reply = Err DraftFull; draft = d })
+    (cond (ltb 3 a) (record { reply = Err (Letter d.letter_count); draft = d })
+    (record { reply = Ok Done; draft = lengthened d a })))
+    (record { reply = Err NoDraft; draft = d })
 
 unfoldable pub drop_of : Draft → Drafted
-drop_of d = cond d.begun (record { reply = Done; draft = end_of d }) (record { reply = Refused NoDraft; draft = d })
+drop_of d = cond d.begun (record { reply = Ok Done; draft = end_of d }) (record { reply = Err NoDraft; draft = d })

@@ -1,5 +1,5 @@
 -- An outline at work, and the questions about it (contract 7.6 to 7.11).
-use Rattle.std.specs.Prelude.{ℕ, ◌*◌, min, Bool, true, false, cond, ◌&&◌, List, take, ℤ, leb}
+use Rattle.std.specs.Prelude.{ℕ, ◌*◌, min, Bool, true, false, cond, ◌&&◌, List, take, ℤ, leb, Ok, Err}
 use Rattle.base.specs.Same.{sameℤs}
 use Rattle.chart.specs.Limits.{side, most_numbers}
 use Rattle.chart.specs.declared.Point.{Point}
@@ -15,8 +15,8 @@ use Rattle.drawing.specs.Points.{drawn_reply}
 use Rattle.calls.specs.declared.Reading.{Reading}
 use Rattle.calls.specs.declared.Question.{Question}
 use Rattle.calls.specs.declared.Question.TheVariants.{Cell as OfCell, Row as OfRow, Reading as OfReading, Piece as OfPiece}
-use Rattle.calls.specs.declared.Reply.{Reply}
-use Rattle.calls.specs.declared.Reply.TheVariants.{Inside, Outside, Refused}
+use Rattle.calls.specs.Replies.{Reply}
+use Rattle.calls.specs.declared.Answer.TheVariants.{Inside, Outside}
 
 -- Whether an outline is at work, its anchor, the space for the numbers of its edges, the count of edges, and its rows
 pub record Work : Type 0 where
@@ -49,19 +49,19 @@ has_edges w a es = w.taken && (same_point w.anchor a && sameℤs (work_edges w) 
 unfoldable pub located : Work → Point → Reply
 located w x =
     cond w.taken
-    (cond (bad_cell x) (Refused Cell) (cond (in_spans w.spans x.col x.row) Inside Outside)) (Refused NothingAtWork)
+    (cond (bad_cell x) (Err Cell) (cond (in_spans w.spans x.col x.row) (Ok Inside) (Ok Outside))) (Err NothingAtWork)
 
 -- 12, 11, or the columns of the row (contract 7.9)
 unfoldable pub spanned : Work → ℕ → Reply
-spanned w r = cond w.taken (cond (leb side r) (Refused Cell) (span_reply (span_at w.spans r))) (Refused NothingAtWork)
+spanned w r = cond w.taken (cond (leb side r) (Err Cell) (span_reply (span_at w.spans r))) (Err NothingAtWork)
 
 -- 12, 11, or where the reading lies among the edges at work (contract 7.10)
 unfoldable pub read_at : Work → Reading → Reply
-read_at w x = cond w.taken (located_reply (located_of w.anchor (work_edges w) x)) (Refused NothingAtWork)
+read_at w x = cond w.taken (located_reply (located_of w.anchor (work_edges w) x)) (Err NothingAtWork)
 
 -- 12, or the path command (contract 7.11)
 unfoldable pub drawn_at : Work → ℕ → Reply
-drawn_at w n = cond w.taken (drawn_reply (stroke_at w.anchor (work_edges w) n)) (Refused NothingAtWork)
+drawn_at w n = cond w.taken (drawn_reply (stroke_at w.anchor (work_edges w) n)) (Err NothingAtWork)
 
 -- The reply to a question
 unfoldable pub answered : Work → Question → Reply

@@ -1,13 +1,14 @@
 -- Each action, done to its party's draft and to one work, replies as the model does
 -- and leaves the model's next draft and work. Every other work stays.
+use Rattle.std.specs.Prelude.{Result, Ok, Err}
 use Prim.Native.Nat.{ℕ}
 use mathlib.Core.Path.{◌≡◌, refl, sym, subst}
 use mathlib.Core.Bool.{Bool, true, false, cond}
 use mathlib.Core.Option.{Option, none, some}
 use Rattle.base.proofs.PutLaws.{put-here, put-elsewhere}
 use Rattle.chart.specs.Outline.{Outline}
-use Rattle.chart.specs.declared.Verdict.{Verdict}
-use Rattle.chart.specs.declared.Verdict.TheVariants.{Taken, Refused}
+use Rattle.chart.specs.declared.Refusal.{Refusal}
+use Rattle.chart.specs.declared.Taken.{Taken}
 use Rattle.chart.specs.declared.Refusal.TheVariants.{NoDraft, Place}
 use Rattle.verdict.specs.Verdict.{verdict_of}
 use Rattle.judge.specs.Judged.{judged_of}
@@ -16,8 +17,8 @@ use Rattle.calls.specs.Calls.{bad_place}
 use Rattle.calls.specs.declared.Action.{Action}
 use Rattle.calls.specs.declared.Action.TheVariants.{Begin, Add, Drop, Clear, Close, Ask}
 use Rattle.calls.specs.declared.Question.{Question}
-use Rattle.calls.specs.declared.Reply.{Reply}
-use Rattle.calls.specs.declared.Reply.TheVariants.{Done, Refused as WasRefused}
+use Rattle.calls.specs.Replies.{Reply}
+use Rattle.calls.specs.declared.Answer.TheVariants.{Done}
 use Rattle.holder_model.specs.Book.{PartyModel, put_draft, put_work, OnDraft, OnParty, work_after, closes, asks, drafting, closing, acts}
 use Rattle.holder_records.specs.Draft.{Draft, Drafted, outline_of, end_of}
 use Rattle.holder_records.specs.Work.{Work, removed, answered}
@@ -47,8 +48,8 @@ module _ (g : PartyModel) (d : Draft) (w : Work) (draft : IsDraft d g.draft) whe
   clear-agrees k work = go (bad_place k) work
     where
       go : (t : Bool) → IsWork w (g.works (cond t 0 k))
-          → AgreesParty g (cond t 0 k) (cond t (acted (WasRefused Place) d w) (acted Done d (removed w)))
-          (cond t (record { reply = WasRefused Place; page = g }) (record { reply = Done; page = put_work g k none }))
+          → AgreesParty g (cond t 0 k) (cond t (acted (Err Place) d w) (acted (Ok Done) d (removed w)))
+          (cond t (record { reply = Err Place; page = g }) (record { reply = Ok Done; page = put_work g k none }))
       go true work = record { reply = refl; draft = draft; work = work; others = λ j e. refl }
       go false work =
           record {
@@ -67,11 +68,11 @@ module _ (g : PartyModel) (d : Draft) (w : Work) (draft : IsDraft d g.draft) whe
       record { reply = said; draft = over; work = rw (put-here g.works k v) is; others = put-elsewhere g.works k v }
 
   -- The work becomes the draft's outline exactly if that was taken
-  closed-stands : (v : Option Outline) → IsWork w v → (o : Outline) (t : Verdict) → outline_of d ≡ o → verdict_of o ≡ t
+  closed-stands : (v : Option Outline) → IsWork w v → (o : Outline) (t : Result Taken Refusal) → outline_of d ≡ o → verdict_of o ≡ t
       → IsWork (closed_work d w (numbers_of o t) t) (work_after v o t)
   unfolding closed_work work_after
-  closed-stands v work o (Refused f) own e = work
-  closed-stands v work o (Taken n a) own e = rw own (taken-working o n a e)
+  closed-stands v work o (Err f) own e = work
+  closed-stands v work o (Ok t) own e = rw own (taken-working o t.edges t.anchor e)
 
   -- The draft's flag is known
   flagged : (b : Bool) (k : ℕ) (x y : Acted) (n : OnParty) → d.begun ≡ b → AgreesParty g k (cond b x y) n
@@ -79,11 +80,11 @@ module _ (g : PartyModel) (d : Draft) (w : Work) (draft : IsDraft d g.draft) whe
   flagged b k x y n e = subst (λ (t : Bool). AgreesParty g k (cond t x y) n) (sym e)
 
   judged-agrees : (k : ℕ) → IsWork w (g.works k) → (o : Option Outline) → IsDraft d o
-      → AgreesParty g k (cond d.begun (closed_by d w (judged_of (outline_of d))) (acted (WasRefused NoDraft) d w))
+      → AgreesParty g k (cond d.begun (closed_by d w (judged_of (outline_of d))) (acted (Err NoDraft) d w))
       (closing g k (closes o (g.works k)))
   unfolding closed_by closes
   judged-agrees k work none is =
-      flagged false k _ _ _ is.stands (leaves k (acted (WasRefused NoDraft) d w) (WasRefused NoDraft) (g.works k) refl is work)
+      flagged false k _ _ _ is.stands (leaves k (acted (Err NoDraft) d w) (Err NoDraft) (g.works k) refl is work)
   judged-agrees k work (some o) is =
       let own : outline_of d ≡ o = is.stands.outline in
       flagged true k _ _ _ is.stands.begun
@@ -98,9 +99,9 @@ module _ (g : PartyModel) (d : Draft) (w : Work) (draft : IsDraft d g.draft) whe
     where
       go : (t : Bool) → IsWork w (g.works (cond t 0 k))
           → AgreesParty g (cond t 0 k)
-          (cond t (acted (WasRefused Place) (end_of d) w)
-          (cond d.begun (closed_by d w (judged_of (outline_of d))) (acted (WasRefused NoDraft) d w)))
-          (cond t (record { reply = WasRefused Place; page = put_draft g none }) (closing g k (closes g.draft (g.works k))))
+          (cond t (acted (Err Place) (end_of d) w)
+          (cond d.begun (closed_by d w (judged_of (outline_of d))) (acted (Err NoDraft) d w)))
+          (cond t (record { reply = Err Place; page = put_draft g none }) (closing g k (closes g.draft (g.works k))))
       go true work = record { reply = refl; draft = ended-stands draft; work = work; others = λ j e. refl }
       go false work = judged-agrees k work g.draft draft
 
@@ -111,7 +112,7 @@ module _ (g : PartyModel) (d : Draft) (w : Work) (draft : IsDraft d g.draft) whe
   ask-agrees k q work = record { reply = asked (bad_place k) work; draft = draft; work = work; others = λ j e. refl }
     where
       asked : (t : Bool) → IsWork w (g.works (cond t 0 k))
-          → cond t (WasRefused Place) (answered w q) ≡ cond t (WasRefused Place) (asks q (g.works k))
+          → cond t (Err Place) (answered w q) ≡ cond t (Err Place) (asks q (g.works k))
       asked true work = refl
       asked false work = answered-asked w q (g.works k) work
 

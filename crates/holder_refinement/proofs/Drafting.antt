@@ -21,9 +21,7 @@ use Rattle.holder_refinement.specs.Told.{told}
 use Rattle.holder_model.specs.Book.{Entered, fresh, book_after}
 use Rattle.holder_refinement.proofs.Drafts.{IsDraft}
 use Rattle.holder_memory.specs.Layout.{Holder, draft_head}
-use Rattle.holder_answers.specs.declared.Drafting.{Drafting}
-use Rattle.holder_answers.specs.declared.Drafting.TheVariants.{Open}
-use Rattle.holder_answers.specs.Arrays.{begun, draft_count, draft_in, opened, lengthened, draft_of}
+use Rattle.holder_answers.specs.Arrays.{Drafting, drafted, begun, draft_count, draft_in, opened, lengthened, draft_of}
 use Rattle.holder_answers.specs.Run.{fresh_holder, holder_after}
 use Rattle.holder_refinement.specs.Stores.{Store, stored, stored_all}
 use Rattle.holder_refinement.specs.Stores.Store.{letter, head}
@@ -56,7 +54,7 @@ module _ (h : Holder) (p : ℕ) (there : p < parties) where
   draft-told none k = rw (lt-leb parties p there, sym flagged, k.stands)
   draft-told (some o) k =
       rw (lt-leb parties p there, sym flagged, k.stands.begun)
-      (ap₂ Open (sym started ∙ ap (λ (x : Outline). x.start) k.stands.outline)
+      (ap₂ drafted (sym started ∙ ap (λ (x : Outline). x.start) k.stands.outline)
       (sym counted ∙ sym (kept-length d k.space k.stands.fits) ∙ ap (λ (x : Outline). length x.letters) k.stands.outline))
 
 -- After every list of calls from a fresh holder, whatever their arguments

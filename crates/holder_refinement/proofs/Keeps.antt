@@ -1,4 +1,5 @@
 -- What is written into the slot that no place names, in any part and any order, leaves the outline that is read at every place.
+use Rattle.std.specs.Prelude.{Result, Ok, Err}
 use Prim.Native.Nat.{ℕ, ◌+◌, ◌*◌, ◌≤◌, ◌<◌}
 use native.Mathlib.Omega.{arith}
 use mathlib.Core.Path.{◌≡◌, refl, ◌∙◌}
@@ -13,8 +14,8 @@ use borrow.Author.Tests.{leb-false}
 use Rattle.chart.specs.Limits.{side, most_numbers}
 use Rattle.chart.specs.Outline.{Outline}
 use Rattle.chart.specs.declared.Point.{Point}
-use Rattle.chart.specs.declared.Verdict.{Verdict}
-use Rattle.chart.specs.declared.Verdict.TheVariants.{Taken, Refused}
+use Rattle.chart.specs.declared.Refusal.{Refusal}
+use Rattle.chart.specs.declared.Taken.{Taken}
 use Rattle.judge.specs.Judged.{judged_of}
 use Rattle.spans.specs.declared.Spans.{Spans}
 use Rattle.spans.specs.Spans.{spans_of}
@@ -203,12 +204,13 @@ module _ (h : Holder) (fit : Fits h) (p : ℕ) (l : p < parties) where
       (beside-next h₁ h₂ _ free (numbers-beside h₁ free es (omega (arith, fit.numbers, free-below h.heads p l)) all)
       (head-beside h₂ free a n))
 
-  by-verdict : (k : ℕ) (o : Outline) (v : Verdict) → Beside h (draft_ended p (outline_prepared_by h p k o (judged_of o) v)).holder free
+  by-verdict : (k : ℕ) (o : Outline) (v : Result Taken Refusal)
+      → Beside h (draft_ended p (outline_prepared_by h p k o (judged_of o) v)).holder free
   unfolding outline_prepared_by
-  by-verdict k o (Refused f) = ended-beside h free p l
-  by-verdict k o (Taken n a) =
-      beside-next h (filled h free a (judged_of o).numbers n (spans_of o)) _ free
-      (filled_beside a (judged_of o).numbers n o (judged-size o)) (ended-beside _ free p l)
+  by-verdict k o (Err f) = ended-beside h free p l
+  by-verdict k o (Ok t) =
+      beside-next h (filled h free t.anchor (judged_of o).numbers t.edges (spans_of o)) _ free
+      (filled_beside t.anchor (judged_of o).numbers t.edges o (judged-size o)) (ended-beside _ free p l)
 
   either : (t : Bool) (x y : Preparation) → Beside h x.holder free → Beside h y.holder free → Beside h (cond t x y).holder free
   either true x y a b = a

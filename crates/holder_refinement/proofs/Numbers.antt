@@ -1,4 +1,5 @@
 -- A call of one party writes only into that party's parts of the arrays: every other number of the memory stays, unnamed slots included.
+use Rattle.std.specs.Prelude.{Result, Ok, Err}
 use Prim.Native.Nat.{ℕ, ◌+◌, ◌*◌, ◌≤◌, ◌<◌}
 use native.Mathlib.Nat.{add-zero}
 use native.Mathlib.Omega.{arith}
@@ -14,8 +15,8 @@ use borrow.Author.Tests.{leb-false}
 use Rattle.chart.specs.Limits.{side, longest, most_numbers}
 use Rattle.chart.specs.Outline.{Outline}
 use Rattle.chart.specs.declared.Point.{Point}
-use Rattle.chart.specs.declared.Verdict.{Verdict}
-use Rattle.chart.specs.declared.Verdict.TheVariants.{Taken, Refused}
+use Rattle.chart.specs.declared.Refusal.{Refusal}
+use Rattle.chart.specs.declared.Taken.{Taken}
 use Rattle.lattice.specs.Refusals.{bad_start}
 use Rattle.judge.specs.Judged.{judged_of}
 use Rattle.spans.specs.Spans.{spans_of}
@@ -183,12 +184,13 @@ module _ (h : Holder) (fit : Fits h) (p : ℕ) (l : p < parties) where
   either true x y a b = a
   either false x y a b = b
 
-  by-verdict : (k : ℕ) (o : Outline) (v : Verdict) → OthersKept h (draft_ended p (outline_prepared_by h p k o (judged_of o) v)).holder p
+  by-verdict : (k : ℕ) (o : Outline) (v : Result Taken Refusal)
+      → OthersKept h (draft_ended p (outline_prepared_by h p k o (judged_of o) v)).holder p
   unfolding outline_prepared_by
-  by-verdict k o (Refused f) = ended-kept h p l
-  by-verdict k o (Taken n a) =
-      kept_next h (filled h t a (judged_of o).numbers n (spans_of o)) _ p (filled-kept a (judged_of o).numbers n o (judged-size o))
-      (ended-kept _ p l)
+  by-verdict k o (Err f) = ended-kept h p l
+  by-verdict k o (Ok u) =
+      kept_next h (filled h t u.anchor (judged_of o).numbers u.edges (spans_of o)) _ p
+      (filled-kept u.anchor (judged_of o).numbers u.edges o (judged-size o)) (ended-kept _ p l)
 
   prepared-kept : (k : ℕ) → OthersKept h (prepared_of h p k).holder p
   unfolding prepared_of

@@ -1,5 +1,6 @@
 -- A restore on the arrays does what the plain book says: as a close of the image's outline that leaves the draft, or as a clear. Its first
 -- half leaves every work and every draft, or clears the place.
+use Rattle.std.specs.Prelude.{Result, Ok, Err}
 use Prim.Native.Nat.{ℕ, ◌<◌}
 use mathlib.Core.Path.{◌≡◌, refl, sym, ap, subst, ◌∙◌}
 use mathlib.Core.Bool.{Bool, true, false, cond}
@@ -14,16 +15,17 @@ use Rattle.base.proofs.PutLaws.{put-here, put-elsewhere}
 use Rattle.chart.specs.Outline.{Outline}
 use Rattle.chart.specs.declared.Point.{Point}
 use Rattle.chart.specs.declared.Refusal.TheVariants.{Cell}
-use Rattle.chart.specs.declared.Verdict.{Verdict}
-use Rattle.chart.specs.declared.Verdict.TheVariants.{Taken, Refused}
+use Rattle.chart.specs.declared.Refusal.{Refusal}
+use Rattle.chart.specs.declared.Taken.{Taken}
+use Rattle.chart.specs.Taken.{taken_with}
 use Rattle.verdict.specs.Verdict.{verdict_of}
 use Rattle.judge.specs.Judged.{judged_of}
 use Rattle.judge.proofs.JudgedLaws.{judged-verdict, judged-numbers}
 use Rattle.spans.specs.Spans.{spans_of}
 use Rattle.calls.specs.Calls.{parties, places, bad_party, bad_place, by}
 use Rattle.calls.specs.declared.Action.TheVariants.{Clear}
-use Rattle.calls.specs.declared.Reply.{Reply}
-use Rattle.calls.specs.declared.Reply.TheVariants.{Done, Taken as WasTaken, Same, Refused as WasRefused}
+use Rattle.calls.specs.Replies.{Reply}
+use Rattle.calls.specs.declared.Answer.TheVariants.{Done, Taken as WasTaken, Same}
 use Rattle.images.specs.Image.{is_image, held_in}
 use Rattle.holder_model.specs.Book.{Book, PartyModel, OnParty, equals_work, closed_reply as closed_in_book, work_after, closes, acts}
 use Rattle.holder_model.specs.Book.{restores, restoring, puts_back, answer, restored}
@@ -82,50 +84,50 @@ module _ (h : Holder) (b : Book) (r : Represents h b) (p : ℕ) (there : p < par
 
   -- ---- an outline, both halves
 
-  module _ (o : Outline) (n : ℕ) (a : Point) (e : (judged_of o).verdict ≡ Taken n a) where
-    taken : verdict_of o ≡ Taken n a
+  module _ (o : Outline) (n : ℕ) (a : Point) (e : (judged_of o).verdict ≡ taken_with n a) where
+    taken : verdict_of o ≡ taken_with n a
     taken = sym (judged-verdict o) ∙ e
 
     abbrev es : List ℤ
     es = (judged_of o).numbers
 
-    own : es ≡ numbers_of o (Taken n a)
+    own : es ≡ numbers_of o (taken_with n a)
     own = judged-numbers o ∙ ap (numbers_of o) taken
 
-    replied : cond (has_edges (work_in h p k) a (listed es n)) (Same n a) (WasTaken n a)
-        ≡ closed_in_book (equals_work o (g.works k)) (Taken n a)
+    replied : cond (has_edges (work_in h p k) a (listed es n)) (Ok (Same n a)) (Ok (WasTaken n a))
+        ≡ closed_in_book (equals_work o (g.works k)) (taken_with n a)
     unfolding closed_reply
     replied =
-        ap (λ (l : List ℤ). closed_reply (work_in h p k) l (Taken n a)) own
-        ∙ closed-agrees (work_in h p k) (g.works k) work o (Taken n a) taken
+        ap (λ (l : List ℤ). closed_reply (work_in h p k) l (taken_with n a)) own
+        ∙ closed-agrees (work_in h p k) (g.works k) work o (taken_with n a) taken
 
     works : IsWork (replaced a es n (spans_of o)) (some o)
     works = rw own (taken-working o n a taken)
 
-  by-verdict : (o : Outline) (v : Verdict) → (judged_of o).verdict ≡ v
+  by-verdict : (o : Outline) (v : Result Taken Refusal) → (judged_of o).verdict ≡ v
       → Agrees (committed p k (outline_prepared_by h p k o (judged_of o) v)) b p
       (restoring g k (record { reply = closed_in_book (equals_work o (g.works k)) v; work = work_after (g.works k) o v }))
   unfolding outline_prepared_by closed_in_book work_after
-  by-verdict o (Refused f) e =
+  by-verdict o (Err f) e =
       rw (commit-zero h.heads p k)
-      (by_turn _ _ _ (Turns.kept h r.fits p there k inside (WasRefused f)) (leaves (WasRefused f) _ (g.works k) refl refl work))
-  by-verdict o (Taken n a) e =
-      let h₁ : Holder = filled h (free_slot h.heads p) a (es o n a e) n (spans_of o) in
+      (by_turn _ _ _ (Turns.kept h r.fits p there k inside (Err f)) (leaves (Err f) _ (g.works k) refl refl work))
+  by-verdict o (Ok t) e =
+      let h₁ : Holder = filled h (free_slot h.heads p) t.anchor (es o t.edges t.anchor e) t.edges (spans_of o) in
       rw (sym (commit-done h₁.heads p k (word_of (free_tag h.heads p)) there inside
       (word-not-zero (free_tag h.heads p) (tag_below h.heads p))))
-      (by_turn _ _ _ (Turns.restored h r.fits p there k inside a n o (es o n a e) (judged-size o) _)
-      (leaves _ _ (some o) (replied o n a e) refl (works o n a e)))
+      (by_turn _ _ _ (Turns.restored h r.fits p there k inside t.anchor t.edges o (es o t.edges t.anchor e) (judged-size o) _)
+      (leaves _ _ (some o) (replied o t.edges t.anchor e) refl (works o t.edges t.anchor e)))
 
   outline-agrees : (o : Outline) → Agrees (committed p k (outline_prepared h p k o)) b p (restoring g k (closes (some o) (g.works k)))
   unfolding closes
   outline-agrees o =
       subst
-      (λ (v : Verdict). Agrees (committed p k (outline_prepared h p k o)) b p
+      (λ (v : Result Taken Refusal). Agrees (committed p k (outline_prepared h p k o)) b p
       (restoring g k (record { reply = closed_in_book (equals_work o (g.works k)) v; work = work_after (g.works k) o v })))
       (judged-verdict o) (by-verdict o (judged_of o).verdict refl)
 
   -- Without letters, as a clear
-  cleared : Agrees (reply Done (worded h (spot p k) 0)) b p (restoring g k (record { reply = Done; work = none }))
+  cleared : Agrees (reply (Ok Done) (worded h (spot p k) 0)) b p (restoring g k (record { reply = Ok Done; work = none }))
   unfolding answer_of act_of clear_of answer acts
   cleared = rw (lt-leb parties p there, lt-leb places k inside) at (call-agrees h b r (by p (Clear k)))
 
@@ -141,12 +143,12 @@ module _ (h : Holder) (b : Book) (r : Represents h b) (p : ℕ) (there : p < par
   unfolding outline_prepared_by
   outline-half o = go (judged_of o).verdict
     where
-      go : (v : Verdict) → Represents (outline_prepared_by h p k o (judged_of o) v).holder b
-      go (Refused f) = r
-      go (Taken n a) =
+      go : (v : Result Taken Refusal) → Represents (outline_prepared_by h p k o (judged_of o) v).holder b
+      go (Err f) = r
+      go (Ok t) =
           represents-same _ (put b p g) b (put-own b p)
-          (by_turn _ _ (record { reply = WasRefused Cell; page = g })
-          (Turns.brought h r.fits p there k inside a n o (judged_of o).numbers (judged-size o) (WasRefused Cell))
+          (by_turn _ _ (record { reply = Err Cell; page = g })
+          (Turns.brought h r.fits p there k inside t.anchor t.edges o (judged_of o).numbers (judged-size o) (Err Cell))
           (record { reply = refl; draft = (r.pages p there).draft; work = work; others = λ j e. refl })).1
 
 -- ---- any restore

@@ -1,4 +1,5 @@
 -- Each call on the arrays does to its party's draft and to the work at its place what `acted_of` says, and leaves all others.
+use Rattle.std.specs.Prelude.{Result, Ok, Err}
 use Prim.Native.Nat.{ℕ, ◌+◌, ◌*◌, ◌≤◌, ◌<◌}
 use native.Mathlib.Omega.{arith}
 use mathlib.Core.Path.{◌≡◌, refl, sym, ap, ◌∙◌}
@@ -13,8 +14,8 @@ use borrow.Author.Tests.{leb-false, lt-ltb}
 use Rattle.chart.specs.Limits.{longest, most_numbers}
 use Rattle.chart.specs.Outline.{Outline}
 use Rattle.chart.specs.declared.Point.{Point}
-use Rattle.chart.specs.declared.Verdict.{Verdict}
-use Rattle.chart.specs.declared.Verdict.TheVariants.{Taken, Refused}
+use Rattle.chart.specs.declared.Refusal.{Refusal}
+use Rattle.chart.specs.declared.Taken.{Taken}
 use Rattle.judge.specs.Judged.{judged_of}
 use Rattle.lattice.specs.Refusals.{bad_start}
 use Rattle.spans.specs.Spans.{spans_of}
@@ -23,8 +24,8 @@ use Rattle.holder_refinement.proofs.Works.{IsWork}
 use Rattle.calls.specs.declared.Question.{Question}
 use Rattle.calls.specs.declared.Action.{Action}
 use Rattle.calls.specs.declared.Action.TheVariants.{Begin, Add, Drop, Clear, Close, Ask}
-use Rattle.calls.specs.declared.Reply.{Reply}
-use Rattle.calls.specs.declared.Reply.TheVariants.{Done, Refused as WasRefused}
+use Rattle.calls.specs.Replies.{Reply}
+use Rattle.calls.specs.declared.Answer.TheVariants.{Done}
 use Rattle.chart.specs.declared.Refusal.TheVariants.{Start, Letter, NoDraft, DraftOpen, DraftFull, Place}
 use lib.Dec.{leb, ltb}
 use Rattle.holder_records.specs.Draft.{Draft, Drafted, outline_of, end_of, begun_at, lengthened, begin_of as begins_draft, add_of as adds_draft}
@@ -195,11 +196,11 @@ module _ (h : Holder) (fit : Fits h) (p : ℕ) (l : p < parties) where
     adds : (a : ℕ) → Turned h p k (add_of h p a) (redrafted (adds_draft d a) w)
     unfolding add_of adds_draft draft_at
     adds a =
-        red (begun h p) _ _ _ (on (WasRefused NoDraft) d)
-        (λ e. red (leb longest (draft_count h p)) _ _ (on (WasRefused DraftFull) d) _ (λ f. kept _)
-        (λ f. red (ltb 3 a) _ _ (on (WasRefused (Letter (draft_count h p))) d) (on Done (lengthened d a)) (λ g. kept _)
+        red (begun h p) _ _ _ (on (Err NoDraft) d)
+        (λ e. red (leb longest (draft_count h p)) _ _ (on (Err DraftFull) d) _ (λ f. kept _)
+        (λ f. red (ltb 3 a) _ _ (on (Err (Letter (draft_count h p))) d) (on (Ok Done) (lengthened d a)) (λ g. kept _)
         (λ g. let room : draft_count h p < longest = leb-false longest (draft_count h p) f in
-        drafted Done (set h.letters (longest * p + draft_count h p) a) (set h.heads (4 * p + 3) (draft_count h p + 1)) (lengthened d a)
+        drafted (Ok Done) (set h.letters (longest * p + draft_count h p) a) (set h.heads (4 * p + 3) (draft_count h p + 1)) (lengthened d a)
         (simp length-set) (simp length-set)
         (set_else h.heads (4 * p) (4 * p + 3) (draft_count h p + 1) (omega arith) (omega arith)) (λ q e. letters-else (draft_count h p) a q room e)
         (more-here room a))))
@@ -207,7 +208,7 @@ module _ (h : Holder) (fit : Fits h) (p : ℕ) (l : p < parties) where
 
     drops : Turned h p k (drop_of h p) (redrafted (drops_draft d) w)
     unfolding drop_of drops_draft draft_at
-    drops = red (begun h p) _ _ (on Done (end_of d)) (on (WasRefused NoDraft) d) (λ e. ended _) (λ e. kept _)
+    drops = red (begun h p) _ _ (on (Ok Done) (end_of d)) (on (Err NoDraft) d) (λ e. ended _) (λ e. kept _)
 
     -- ---- begin
 
@@ -240,9 +241,9 @@ module _ (h : Holder) (fit : Fits h) (p : ℕ) (l : p < parties) where
     begins : (s : Point) → Turned h p k (begin_of h p s) (redrafted (begins_draft d s) w)
     unfolding begin_of begins_draft draft_at
     begins s =
-        red (begun h p) _ _ (on (WasRefused DraftOpen) d) _ (λ e. kept _)
-        (λ e. red (bad_start s) _ _ (on (WasRefused Start) d) (on Done (begun_at d s)) (λ b. kept _)
-        (λ b. drafted Done h.letters (open_put h.heads (4 * p) s) (begun_at d s) refl (simp length-set)
+        red (begun h p) _ _ (on (Err DraftOpen) d) _ (λ e. kept _)
+        (λ e. red (bad_start s) _ _ (on (Err Start) d) (on (Ok Done) (begun_at d s)) (λ b. kept _)
+        (λ b. drafted (Ok Done) h.letters (open_put h.heads (4 * p) s) (begun_at d s) refl (simp length-set)
         (opened-else s) (λ q e. refl) (opened-here s)))
 
     -- ---- clear
@@ -252,7 +253,7 @@ module _ (h : Holder) (fit : Fits h) (p : ℕ) (l : p < parties) where
     none_left none i = ap (λ (x : Work). x.taken) (worded-here h (spot p k) 0 (omega arith) p k refl fit.heads) ∙ refl
     none_left (some o) i = absurd (true≢false (sym i.taken))
 
-    pub cleared : Turned h p k (reply Done (worded h (spot p k) 0)) (acted Done d (removed w))
+    pub cleared : Turned h p k (reply (Ok Done) (worded h (spot p k) 0)) (acted (Ok Done) d (removed w))
     cleared =
         record {
           reply = refl;
@@ -414,22 +415,22 @@ module _ (h : Holder) (fit : Fits h) (p : ℕ) (l : p < parties) where
                 ∙ keeps h h₂ p l (beside-next h h₁ h₂ t (filled_beside h fit p l a es n o all) (ended-beside h₁ t p l)) q j b i;
           }
 
-    closed : (v : Verdict) → (judged_of (draft_in h p)).verdict ≡ v
+    closed : (v : Result Taken Refusal) → (judged_of (draft_in h p)).verdict ≡ v
         → Turned h p k (committed p k (draft_ended p (outline_prepared_by h p k (draft_in h p) (judged_of (draft_in h p)) v)))
         (closed_slot (draft_of h p) (work_in h p k) (judged_of (draft_in h p)))
     unfolding outline_prepared_by closed_slot closed_reply closed_work
-    closed (Refused f) e = rw (e, commit-zero (set h.heads (4 * p) 0) p k) (ended h fit p l k m (WasRefused f))
-    closed (Taken n a) e =
+    closed (Err f) e = rw (e, commit-zero (set h.heads (4 * p) 0) p k) (ended h fit p l k m (Err f))
+    closed (Ok t) e =
         let o : Outline = draft_in h p in
         let es : List ℤ = (judged_of o).numbers in
         let all : length es ≡ most_numbers = judged-size o in
         rw (
           e,
           sym mine,
-          sym (commit-done (h₂ a n o es all).heads p k (word_of (free_tag h.heads p)) l m
+          sym (commit-done (h₂ t.anchor t.edges o es all).heads p k (word_of (free_tag h.heads p)) l m
               (word-not-zero (free_tag h.heads p) (tag_below h.heads p))),
         )
-        (taken a n o es all _)
+        (taken t.anchor t.edges o es all _)
 
   either-closed : (k : ℕ) (u : Bool) (x₁ x₂ : Preparation) (y₁ y₂ : Acted) → (u ≡ true → Turned h p k (committed p k x₁) y₁)
       → (u ≡ false → Turned h p k (committed p k x₂) y₂) → Turned h p k (committed p k (cond u x₁ x₂)) (cond u y₁ y₂)
@@ -442,11 +443,11 @@ module _ (h : Holder) (fit : Fits h) (p : ℕ) (l : p < parties) where
     where
       go : (t : Bool) → bad_place k ≡ t
           → Turned h p (kept_place k) (close_of h p k) (closes_slot (draft_of h p) (work_in h p (kept_place k)) k)
-      go true b = rw (b, commit-zero (set h.heads (4 * p) 0) p k) (ended h fit p l 0 (omega arith) (WasRefused Place))
+      go true b = rw (b, commit-zero (set h.heads (4 * p) 0) p k) (ended h fit p l 0 (omega arith) (Err Place))
       go false b =
           let m : k < places = leb-false places k b in
           rw (b, sym mine) (either-closed k (begun h p) _ _ _ _ (λ e. closed k m _ refl)
-          (λ e. rw (commit-zero h.heads p k) (kept h fit p l k m (WasRefused NoDraft))))
+          (λ e. rw (commit-zero h.heads p k) (kept h fit p l k m (Err NoDraft))))
 
   clears : (k : ℕ) → Turned h p (kept_place k) (clear_of h p k) (clears_slot (draft_of h p) (work_in h p (kept_place k)) k)
   unfolding kept_place clear_of clears_slot
@@ -454,7 +455,7 @@ module _ (h : Holder) (fit : Fits h) (p : ℕ) (l : p < parties) where
     where
       go : (t : Bool) → bad_place k ≡ t
           → Turned h p (kept_place k) (clear_of h p k) (clears_slot (draft_of h p) (work_in h p (kept_place k)) k)
-      go true b = rw b (kept h fit p l 0 (omega arith) (WasRefused Place))
+      go true b = rw b (kept h fit p l 0 (omega arith) (Err Place))
       go false b = rw b (cleared h fit p l k (leb-false places k b))
 
   asks : (k : ℕ) (q : Question) → Turned h p (kept_place k) (act_of h p (Ask k q)) (ask_of (draft_of h p) (work_in h p (kept_place k)) k q)
@@ -463,7 +464,7 @@ module _ (h : Holder) (fit : Fits h) (p : ℕ) (l : p < parties) where
     where
       go : (t : Bool) → bad_place k ≡ t
           → Turned h p (kept_place k) (act_of h p (Ask k q)) (ask_of (draft_of h p) (work_in h p (kept_place k)) k q)
-      go true b = rw b (kept h fit p l 0 (omega arith) (WasRefused Place))
+      go true b = rw b (kept h fit p l 0 (omega arith) (Err Place))
       go false b = rw b (kept h fit p l k (leb-false places k b) _)
 
   pub turns : (a : Action) → Turned h p (reached_by a) (act_of h p a) (acted_of (draft_of h p) (work_in h p (reached_by a)) a)

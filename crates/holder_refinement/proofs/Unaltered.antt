@@ -1,4 +1,5 @@
 -- A refused call leaves every number of the arrays, whatever they held; a refused close may end its draft.
+use Rattle.std.specs.Prelude.{Result, Ok, Err}
 use Prim.Native.Nat.{ℕ}
 use mathlib.Core.Path.{◌≡◌, refl}
 use mathlib.Core.Bool.{Bool, true, false, cond, true≢false}
@@ -8,15 +9,15 @@ use lib.Dec.{leb, ltb}
 use Rattle.chart.specs.Limits.{longest}
 use Rattle.chart.specs.Outline.{Outline}
 use Rattle.chart.specs.declared.Point.{Point}
-use Rattle.chart.specs.declared.Verdict.{Verdict}
-use Rattle.chart.specs.declared.Verdict.TheVariants.{Taken, Refused}
+use Rattle.chart.specs.declared.Refusal.{Refusal}
+use Rattle.chart.specs.declared.Taken.{Taken}
 use Rattle.lattice.specs.Refusals.{bad_start}
 use Rattle.judge.specs.declared.Judged.{Judged}
 use Rattle.calls.specs.Calls.{bad_party, bad_place, by}
 use Rattle.calls.specs.Replies.{reply_fields}
 use Rattle.calls.specs.declared.Action.{Action}
 use Rattle.calls.specs.declared.Action.TheVariants.{Begin, Add, Drop, Clear, Close, Ask}
-use Rattle.calls.specs.declared.Reply.TheVariants.{Taken as WasTaken, Same}
+use Rattle.calls.specs.declared.Answer.TheVariants.{Taken as WasTaken, Same}
 use Rattle.holder_records.specs.Work.{listed, has_edges}
 use Rattle.holder_memory.specs.Layout.{Holder, draft_head}
 use Rattle.holder_answers.specs.Arrays.{Answered, begun, draft_count, work_in, ended, begin_of, add_of, drop_of, clear_of, Preparation, draft_ended}
@@ -59,7 +60,7 @@ module _ (h : Holder) (p : ℕ) where
   abbrev Ended : Holder → Type 0
   Ended n = (n ≡ h) ⊎ (n ≡ ended h p)
 
-  accepted : (t : Bool) (n : ℕ) (a : Point) → (reply_fields (cond t (Same n a) (WasTaken n a))).number ≡ 0
+  accepted : (t : Bool) (n : ℕ) (a : Point) → (reply_fields (cond t (Ok (Same n a)) (Ok (WasTaken n a)))).number ≡ 0
   unfolding reply_fields
   accepted true n a = refl
   accepted false n a = refl
@@ -71,10 +72,10 @@ module _ (h : Holder) (p : ℕ) where
   each k true x y f g = f
   each k false x y f g = g
 
-  closed_same : (k : ℕ) (o : Outline) (j : Judged) (v : Verdict) → Refuses k (draft_ended p (outline_prepared_by h p k o j v))
+  closed_same : (k : ℕ) (o : Outline) (j : Judged) (v : Result Taken Refusal) → Refuses k (draft_ended p (outline_prepared_by h p k o j v))
   unfolding outline_prepared_by
-  closed_same k o j (Refused f) r = inr (rw (commit-zero (set h.heads (draft_head p) 0) p k))
-  closed_same k o j (Taken n a) r = absurd (r (accepted (has_edges (work_in h p k) a (listed j.numbers n)) n a))
+  closed_same k o j (Err f) r = inr (rw (commit-zero (set h.heads (draft_head p) 0) p k))
+  closed_same k o j (Ok t) r = absurd (r (accepted (has_edges (work_in h p k) t.anchor (listed j.numbers t.edges)) t.edges t.anchor))
 
   close-same : (k : ℕ) → IfRefused Ended (close_of h p k)
   unfolding close_of prepared_of
@@ -91,10 +92,11 @@ module _ (h : Holder) (p : ℕ) where
   every true x y f g = f
   every false x y f g = g
 
-  judged-same : (k : ℕ) (o : Outline) (j : Judged) (v : Verdict) → PrepareRefuses (draft_ended p (outline_prepared_by h p k o j v))
+  judged-same : (k : ℕ) (o : Outline) (j : Judged) (v : Result Taken Refusal)
+      → PrepareRefuses (draft_ended p (outline_prepared_by h p k o j v))
   unfolding outline_prepared_by
-  judged-same k o j (Refused f) r = (refl, inr refl)
-  judged-same k o j (Taken n a) r = absurd (r (accepted (has_edges (work_in h p k) a (listed j.numbers n)) n a))
+  judged-same k o j (Err f) r = (refl, inr refl)
+  judged-same k o j (Ok t) r = absurd (r (accepted (has_edges (work_in h p k) t.anchor (listed j.numbers t.edges)) t.edges t.anchor))
 
   -- A refused prepare leaves the arrays, or ends its draft and leaves every other number; its word is 0, so that a commit writes nothing
   pub refused-prepare : (k : ℕ) → PrepareRefuses (prepare_of h p k)

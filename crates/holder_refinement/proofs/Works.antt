@@ -1,6 +1,7 @@
 -- A work represents the model's: its flag says whether there is one, and its anchor, edges and rows are
 -- those of the model's outline, which was taken. So edges and rows decide for the outline's cells, and two
 -- taken outlines enclose the same cells exactly if they have the same anchor and edges.
+use Rattle.std.specs.Prelude.{Result, Ok, Err}
 use Prim.Native.Nat.{ℕ, ◌*◌, min}
 use native.Mathlib.Omega.{arith}
 use mathlib.Core.Path.{◌≡◌, refl, sym, ap, ◌∙◌}
@@ -16,8 +17,9 @@ use Rattle.base.proofs.Same.{same-ℤs-iff}
 use Rattle.chart.specs.Limits.{most_numbers}
 use Rattle.chart.specs.Outline.{Outline}
 use Rattle.chart.specs.declared.Point.{Point}
-use Rattle.chart.specs.declared.Verdict.{Verdict}
-use Rattle.chart.specs.declared.Verdict.TheVariants.{Taken, Refused}
+use Rattle.chart.specs.declared.Refusal.{Refusal}
+use Rattle.chart.specs.declared.Taken.{Taken}
+use Rattle.chart.specs.Taken.{taken_with}
 use Rattle.lattice.specs.Chart.{same_point}
 use Rattle.lattice.proofs.WalkLaws.{same_point-true, same-point-self}
 use Rattle.convexity.specs.Clockwise.{border}
@@ -32,7 +34,7 @@ use Rattle.verdict.proofs.VerdictLaws.{TakenFacts, taken-facts, taken-fits}
 use Rattle.calls.specs.declared.Question.{Question}
 use Rattle.calls.specs.declared.Question.TheVariants.{Cell as OfCell, Row as OfRow, Reading as OfReading, Piece as OfPiece}
 use Rattle.calls.specs.declared.Reading.{Reading}
-use Rattle.calls.specs.declared.Reply.TheVariants.{Taken as WasTaken, Same}
+use Rattle.calls.specs.declared.Answer.TheVariants.{Taken as WasTaken, Same}
 use Rattle.holder_model.specs.Book.{same_block, equals_work, closed_reply as closed_in_book, asked, asked_row, asked_reading, asked_piece, asks}
 use Rattle.holder_model.proofs.SameBlock.{same-block-iff}
 use Rattle.holder_records.specs.Work.{Work, listed, work_edges, replaced, removed, has_edges, located, spanned, read_at, drawn_at, answered}
@@ -60,14 +62,14 @@ removed-stands w = refl
 -- ---- an outline that was taken
 
 -- The numbers of an outline's edges, followed by zeros
-abbrev pub numbers_of : Outline → Verdict → List ℤ
+abbrev pub numbers_of : Outline → Result Taken Refusal → List ℤ
 numbers_of o v = buffer_after v (edges (border o)) (replicate most_numbers (pos 0))
 
-module _ (o : Outline) (n : ℕ) (a : Point) (e : verdict_of o ≡ Taken n a) where
+module _ (o : Outline) (n : ℕ) (a : Point) (e : verdict_of o ≡ taken_with n a) where
   abbrev facts : TakenFacts o n a
   facts = taken-facts o n a e
 
-  listed-edges : listed (numbers_of o (Taken n a)) n ≡ edges (border o)
+  listed-edges : listed (numbers_of o (taken_with n a)) n ≡ edges (border o)
   unfolding listed buffer_after
   listed-edges =
       let all : min (2 * n) most_numbers ≡ 2 * n = omega (arith, taken-fits o n a e) in
@@ -76,7 +78,7 @@ module _ (o : Outline) (n : ℕ) (a : Point) (e : verdict_of o ≡ Taken n a) wh
       rw all (take_at es (drop (length es) (replicate most_numbers (pos 0))) (2 * n) size)
 
   -- The work that it becomes
-  pub taken-working : Working (replaced a (numbers_of o (Taken n a)) n (spans_of o)) o
+  pub taken-working : Working (replaced a (numbers_of o (taken_with n a)) n (spans_of o)) o
   unfolding replaced work_edges
   taken-working =
       record {
@@ -91,9 +93,9 @@ module _ (o : Outline) (n : ℕ) (a : Point) (e : verdict_of o ≡ Taken n a) wh
 -- ---- the same block
 
 -- Comparing a taken outline's anchor and edges decides whether it is the block at work
-module _ (w : Work) (v o : Outline) (k : Working w v) (n : ℕ) (a : Point) (e : verdict_of o ≡ Taken n a) where
+module _ (w : Work) (v o : Outline) (k : Working w v) (n : ℕ) (a : Point) (e : verdict_of o ≡ taken_with n a) where
   abbrev es : List ℤ
-  es = listed (numbers_of o (Taken n a)) n
+  es = listed (numbers_of o (taken_with n a)) n
 
   compared : (same_point w.anchor a && sameℤs (work_edges w) es) ≡ same_block o v
   compared = same_test _ _ (cells, edged) (λ t. t, λ t. t)
@@ -129,8 +131,8 @@ flag-false true x e = absurd (true≢false e)
 flag-false false x e = refl
 
 -- "Same" and "taken" depend on the edges in the holder and on the cells in the model
-same-work : (w : Work) (o : Outline) (n : ℕ) (a : Point) → verdict_of o ≡ Taken n a → (v : Option Outline) → IsWork w v
-    → has_edges w a (listed (numbers_of o (Taken n a)) n) ≡ equals_work o v
+same-work : (w : Work) (o : Outline) (n : ℕ) (a : Point) → verdict_of o ≡ taken_with n a → (v : Option Outline) → IsWork w v
+    → has_edges w a (listed (numbers_of o (taken_with n a)) n) ≡ equals_work o v
 unfolding has_edges equals_work
 same-work w o n a e none k = flag-false w.taken _ k
 same-work w o n a e (some v) k = flag_true w.taken _ k.taken ∙ compared w v o k n a e
@@ -138,11 +140,12 @@ same-work w o n a e (some v) k = flag_true w.taken _ k.taken ∙ compared w v o 
 -- ---- close
 
 -- The reply depends on the edges in the holder and on the cells in the model
-pub closed-agrees : (w : Work) (v : Option Outline) → IsWork w v → (o : Outline) (t : Verdict) → verdict_of o ≡ t
+pub closed-agrees : (w : Work) (v : Option Outline) → IsWork w v → (o : Outline) (t : Result Taken Refusal) → verdict_of o ≡ t
     → closed_reply w (numbers_of o t) t ≡ closed_in_book (equals_work o v) t
 unfolding closed_reply closed_in_book
-closed-agrees w v k o (Refused f) e = refl
-closed-agrees w v k o (Taken n a) e = ap (λ (s : Bool). cond s (Same n a) (WasTaken n a)) (same-work w o n a e v k)
+closed-agrees w v k o (Err f) e = refl
+closed-agrees w v k o (Ok t) e =
+    ap (λ (s : Bool). cond s (Ok (Same t.edges t.anchor)) (Ok (WasTaken t.edges t.anchor))) (same-work w o t.edges t.anchor e v k)
 
 -- ---- query
 

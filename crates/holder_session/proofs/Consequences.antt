@@ -15,10 +15,12 @@ use Rattle.chart.specs.Limits.{side}
 use Rattle.chart.specs.Outline.{Outline}
 use Rattle.chart.specs.declared.Fields.{Fields}
 use Rattle.chart.specs.declared.Point.{Point}
-use Rattle.chart.specs.declared.Verdict.{Verdict}
-use Rattle.chart.specs.declared.Verdict.TheVariants.{Taken, Refused}
+use Rattle.chart.specs.declared.Refusal.{Refusal}
+use Rattle.chart.specs.declared.Taken.{Taken}
+use Rattle.chart.specs.Taken.{taken_with}
 use Rattle.chart.specs.Fields.{inside, outside, same, undecided, verdict_fields}
 use Rattle.chart.proofs.RefusalLaws.{refusal-number, refusal-wordless}
+use Rattle.chart.proofs.TakenLaws.{verdict_number}
 use Rattle.lattice.specs.Hull.{Missing, Convex}
 use Rattle.lattice.specs.Refusals.{Simple}
 use Rattle.convexity.specs.Clockwise.{border, block}
@@ -26,26 +28,23 @@ use Rattle.convexity.specs.Pieces.{Reaches, edges}
 use Rattle.convexity.specs.SameBlock.{SameCells}
 use Rattle.verdict.specs.Verdict.{verdict_of}
 use Rattle.verdict.specs.Named.{CellNamed}
-use Rattle.spans.specs.declared.Span.{Span}
-use Rattle.spans.specs.declared.Span.TheVariants.{None as Empty, Columns as Across}
-use Rattle.spans.specs.Spans.{row_span, SpanExact, span_reply}
+use Rattle.std.specs.Prelude.{Some, None as Empty, Result, Ok, Err}
+use Rattle.spans.specs.Spans.{Span, row_span, SpanExact, span_reply}
 use Rattle.readings.specs.declared.Located.{Located}
 use Rattle.readings.specs.declared.Located.TheVariants.{Inside as IsInside, Outside as IsOutside, Undecided as IsUndecided}
-use Rattle.readings.specs.declared.Located.TheVariants.{Refused as IsRefused}
 use Rattle.readings.specs.Located.{Held, bad_reading, exactly_inside, located_of}
 use Rattle.readings.specs.Sides.{PlacedEdge, edges_along, exact_side, computed_side}
 use Rattle.readings.specs.Claims.{Open, Centred}
 use Rattle.readings.specs.Replies.{located_reply}
 use Rattle.calls.specs.Calls.{parties, places, by}
-use Rattle.calls.specs.Replies.{columns, none_word, reply_fields, piece_in}
+use Rattle.calls.specs.Replies.{Reply, columns, none_word, reply_fields, piece_in}
 use Rattle.calls.specs.declared.Call.{Call}
 use Rattle.calls.specs.declared.Reading.{Reading}
-use Rattle.calls.specs.declared.Reply.{Reply}
-use Rattle.calls.specs.declared.Reply.TheVariants.{Inside, Outside, Undecided, Same}
+use Rattle.calls.specs.declared.Answer.TheVariants.{Inside, Outside, Undecided, Same}
 use Rattle.calls.specs.declared.Action.TheVariants.{Close, Ask}
 use Rattle.calls.specs.declared.Question.TheVariants.{Cell as OfCell, Row as OfRow, Reading as OfReading, Piece as OfPiece}
 use Rattle.drawing.specs.Drawing.{stroke_at}
-use Rattle.drawing.specs.Points.{piece_of, drawn_reply, point_after}
+use Rattle.drawing.specs.Points.{drawn_reply, point_after}
 use Rattle.holder_model.specs.Book.{Entry, drafted, fresh, equals_work, closed_reply, book_after}
 use Rattle.holder_model.specs.LastTaken.{last_taken}
 use Rattle.book_replies.specs.After.{reply_to}
@@ -64,12 +63,12 @@ differ z = absurd (omega (arith, z))
 
 -- ---- a query
 
-word-inside : (t : Bool) → ((reply_fields (cond t Inside Outside)).word ≡ inside) ↔ (t ≡ true)
+word-inside : (t : Bool) → ((reply_fields (cond t (Ok Inside) (Ok Outside))).word ≡ inside) ↔ (t ≡ true)
 unfolding reply_fields
 word-inside true = (λ e. refl, λ e. refl)
 word-inside false = (λ e. absurd (omega (arith, e)), λ e. cc)
 
-word-outside : (t : Bool) → ((reply_fields (cond t Inside Outside)).word ≡ outside) ↔ (t ≡ false)
+word-outside : (t : Bool) → ((reply_fields (cond t (Ok Inside) (Ok Outside))).word ≡ outside) ↔ (t ≡ false)
 unfolding reply_fields
 word-outside true = (λ e. absurd (omega (arith, e)), λ e. cc)
 word-outside false = (λ e. refl, λ e. refl)
@@ -98,20 +97,21 @@ module _ (cs : List Entry) (p k : ℕ) (there : p < parties) (place : k < places
 
 -- ---- a close
 
-word_same : (t : Bool) (v : Verdict) → ((reply_fields (closed_reply t v)).word ≡ same) ↔ ((n : ℕ) × (a : Point) × (closed_reply t v ≡ Same n a))
+word_same : (t : Bool) (v : Result Taken Refusal)
+    → ((reply_fields (closed_reply t v)).word ≡ same) ↔ ((n : ℕ) × (a : Point) × (closed_reply t v ≡ Ok (Same n a)))
 unfolding reply_fields closed_reply
-word_same t (Refused f) = (λ e. absurd (omega (arith, e, refusal-wordless f)), λ e. let z = e.2 in differ cc)
-word_same true (Taken n a) = (λ e. (n, a, refl), λ e. refl)
-word_same false (Taken n a) = (λ e. absurd (omega (arith, e)), λ e. let z = e.2 in differ cc)
+word_same t (Err f) = (λ e. absurd (omega (arith, e, refusal-wordless f)), λ e. let z = e.2 in differ cc)
+word_same true (Ok t) = (λ e. (t.edges, t.anchor, refl), λ e. refl)
+word_same false (Ok t) = (λ e. absurd (omega (arith, e)), λ e. let z = e.2 in differ cc)
 
-taken-by-number : (v : Verdict) → (verdict_fields v).number ≡ 0 → (n : ℕ) × (a : Point) × (v ≡ Taken n a)
-taken-by-number (Taken n a) e = (n, a, refl)
-taken-by-number (Refused f) e = absurd (omega (arith, e, refusal-number f))
+taken-by-number : (v : Result Taken Refusal) → (verdict_fields v).number ≡ 0 → (n : ℕ) × (a : Point) × (v ≡ taken_with n a)
+taken-by-number (Ok t) e = (t.edges, t.anchor, refl)
+taken-by-number (Err f) e = absurd (omega (arith, e, refusal-number f))
 
-never-same : (v : Verdict) → (reply_fields (closed_reply false v)).word ≡ same → ⊥
+never-same : (v : Result Taken Refusal) → (reply_fields (closed_reply false v)).word ≡ same → ⊥
 unfolding reply_fields closed_reply
-never-same (Refused f) e = omega (arith, e, refusal-wordless f)
-never-same (Taken n a) e = omega (arith, e)
+never-same (Err f) e = omega (arith, e, refusal-wordless f)
+never-same (Ok t) e = omega (arith, e)
 
 -- A close by party p at place k with the draft o
 module _ (cs : List Entry) (p k : ℕ) (there : p < parties) (place : k < places) (o : Outline)
@@ -149,7 +149,7 @@ module _ (cs : List Entry) (p k : ℕ) (there : p < parties) (place : k < places
       to e =
           let (n, a, s) = (word_same (equals_work o (last_taken p k cs)) (verdict_of o)).0 (sym (ap (λ (f : Fields). f.word) closed) ∙ e) in
           let both = (Closes.close-same p k there place cs o draft v last n a).0 (Closes.close-reply p k there place cs o draft ∙ s) in
-          (close-number ∙ ap (λ (w : Verdict). (verdict_fields w).number) both.0, both.1)
+          (close-number ∙ ap verdict_number both.0, both.1)
 
       from : (g.number ≡ 0) × SameCells o v → g.word ≡ same
       from e =
@@ -171,18 +171,18 @@ word-columns : (marked : ℕ → ℕ → Bool) (r : ℕ) (s : Span) → SpanExac
     → (c : ℕ) → (marked c r ≡ true) ↔ (((reply_fields (span_reply s)).col ≤ c) × (c ≤ (reply_fields (span_reply s)).row))
 unfolding SpanExact span_reply reply_fields
 word-columns marked r Empty exact e c = absurd (omega (arith, e))
-word-columns marked r (Across a b) exact e c = exact.1 c
+word-columns marked r (Some t) exact e c = exact.1 c
 
 word_none : (marked : ℕ → ℕ → Bool) (r : ℕ) (s : Span) → SpanExact marked r s → (reply_fields (span_reply s)).word ≡ none_word → (c : ℕ)
     → marked c r ≡ false
 unfolding SpanExact span_reply reply_fields
 word_none marked r Empty exact e c = exact c
-word_none marked r (Across a b) exact e c = absurd (omega (arith, e))
+word_none marked r (Some t) exact e c = absurd (omega (arith, e))
 
 either-word : (s : Span) → ((reply_fields (span_reply s)).word ≡ columns) ⊎ ((reply_fields (span_reply s)).word ≡ none_word)
 unfolding span_reply reply_fields
 either-word Empty = inr refl
-either-word (Across a b) = inl refl
+either-word (Some t) = inl refl
 
 module _ (cs : List Entry) (p k : ℕ) (there : p < parties) (place : k < places) (r : ℕ) (row : r < side) (o : Outline)
     (last : last_taken p k cs ≡ some o) (g : Fields)
@@ -207,27 +207,27 @@ module _ (cs : List Entry) (p k : ℕ) (there : p < parties) (place : k < places
 -- ---- a reading
 
 -- The word of a result
-word_of : (l : Located)
-    → (((reply_fields (located_reply l)).word ≡ inside) ↔ (located_reply l ≡ Inside))
-    × (((reply_fields (located_reply l)).word ≡ outside) ↔ (located_reply l ≡ Outside))
-    × (((reply_fields (located_reply l)).word ≡ undecided) ↔ (located_reply l ≡ Undecided))
+word_of : (l : Result Located Refusal)
+    → (((reply_fields (located_reply l)).word ≡ inside) ↔ (located_reply l ≡ Ok Inside))
+    × (((reply_fields (located_reply l)).word ≡ outside) ↔ (located_reply l ≡ Ok Outside))
+    × (((reply_fields (located_reply l)).word ≡ undecided) ↔ (located_reply l ≡ Ok Undecided))
 unfolding located_reply reply_fields
-word_of IsInside =
+word_of (Ok IsInside) =
     ((λ e. refl, λ e. refl), (λ e. absurd (omega (arith, e)), λ e. differ cc), (λ e. absurd (omega (arith, e)), λ e. differ cc))
-word_of IsOutside =
+word_of (Ok IsOutside) =
     ((λ e. absurd (omega (arith, e)), λ e. differ cc), (λ e. refl, λ e. refl), (λ e. absurd (omega (arith, e)), λ e. differ cc))
-word_of IsUndecided =
+word_of (Ok IsUndecided) =
     ((λ e. absurd (omega (arith, e)), λ e. differ cc), (λ e. absurd (omega (arith, e)), λ e. differ cc), (λ e. refl, λ e. refl))
-word_of IsRefused = (
-  (λ e. absurd (omega (arith, e)), λ e. differ cc),
-  (λ e. absurd (omega (arith, e)), λ e. differ cc),
-  (λ e. absurd (omega (arith, e)), λ e. differ cc),
+word_of (Err why) = (
+  (λ e. absurd (omega (arith, e, refusal-wordless why)), λ e. differ cc),
+  (λ e. absurd (omega (arith, e, refusal-wordless why)), λ e. differ cc),
+  (λ e. absurd (omega (arith, e, refusal-wordless why)), λ e. differ cc),
 )
 
 module _ (cs : List Entry) (p k : ℕ) (there : p < parties) (place : k < places) (x : Reading) (held : Held x) (good : bad_reading x ≡ false)
     (o : Outline) (last : last_taken p k cs ≡ some o)
     (g : Fields) (replied : Replied cs (by p (Ask k (OfReading x))) g) where
-  abbrev found : Located
+  abbrev found : Result Located Refusal
   found = located_of (border o).start (edges (border o)) x
 
   reply-is : g ≡ reply_fields (located_reply found)
@@ -288,8 +288,7 @@ module _ (cs : List Entry) (p k : ℕ) (there : p < parties) (place : k < places
 
     -- The point that is written beside the reply: the two floats of a move or a line (contract 10.5)
     pub piece-point : (point point' : List Float) (reply : List ℕ) → Happened cs (Drew p k n point point' reply)
-        → point' ≡ point_after (piece_of (stroke_at (border o).start (edges (border o)) n)) point
-    unfolding piece_in drawn_reply
+        → point' ≡ point_after (piece_in (drawn_reply (stroke_at (border o).start (edges (border o)) n))) point
     piece-point point point' reply e =
         point-by-book cs p k n point point' reply e
         ∙ ap (λ (r : Reply). point_after (piece_in r) point) (Pieces.piece-reply p k there place cs o last n)

@@ -9,20 +9,19 @@ use lib.Ieee.{Float}
 use borrow.Author.Tests.{eqb-true}
 use Rattle.chart.specs.Fields.{numbers_of}
 use Rattle.calls.specs.Calls.{by}
-use Rattle.calls.specs.Replies.{reply_fields, piece_in}
+use Rattle.calls.specs.Replies.{Reply, reply_fields, piece_in}
 use Rattle.calls.specs.declared.Call.{Call}
 use Rattle.calls.specs.declared.Action.TheVariants.{Drop, Close}
-use Rattle.calls.specs.declared.Reply.{Reply}
 use Rattle.drawing.specs.Points.{point_after}
 use Rattle.holder_model.specs.Book.{Entry, Entered, Restored, party_of, fresh, book_after}
 use Rattle.holder_model.specs.Parties.{entries_of}
 use Rattle.book_replies.specs.After.{reply_to}
 use Rattle.book_replies.proofs.Parties.{own-page, own-reply, own-restored, own-append, own-more, own-others}
-use Rattle.wire.specs.declared.Decoded.{Decoded}
-use Rattle.wire.specs.declared.Decoded.TheVariants.{Call as OfCall, Nothing}
+use Rattle.wire.specs.Wire.{Decoded}
+use Rattle.std.specs.Prelude.{Some, None}
 use Rattle.wire.specs.Wire.{decoded}
 use Rattle.holder_memory.specs.Layout.{Holder}
-use Rattle.holder_answers.specs.declared.Drafting.{Drafting}
+use Rattle.holder_answers.specs.Arrays.{Drafting}
 use Rattle.holder_answers.specs.Arrays.{with_heads}
 use Rattle.holder_written.specs.Written.{draft_fields}
 use Rattle.holder_bytes.specs.Responded.{is_call}
@@ -160,8 +159,8 @@ module _ (p : ℕ) where
 
   sent-own : (t : State) (d : Decoded) (reply : List ℕ) → is_of p d ≡ true → numbers_for (seen t) d reply ≡ numbers_for (seen (own t)) d reply
   unfolding is_of numbers_for
-  sent-own t Nothing reply e = refl
-  sent-own t (OfCall c) reply e = numbers-own t c e
+  sent-own t None reply e = refl
+  sent-own t (Some c) reply e = numbers-own t c e
 
   restored-own : (t : State) (q k : ℕ) (bytes : List ℕ) → eqb p q ≡ true
       → restored_to (seen t) q k bytes ≡ restored_to (seen (own t)) q k bytes
@@ -199,8 +198,8 @@ module _ (p : ℕ) where
   sent-next : (t : State) (d : Decoded)
       → (is_of p d ≡ true → own (more t (calls_in d)) ≡ more (own t) (calls_in d)) × (is_of p d ≡ false → own (more t (calls_in d)) ≡ own t)
   unfolding is_of calls_in
-  sent-next t Nothing = (λ e. absurd (true≢false (sym e)), λ e. more-none t)
-  sent-next t (OfCall c) = (more-own t c, more-others t c)
+  sent-next t None = (λ e. absurd (true≢false (sym e)), λ e. more-none t)
+  sent-next t (Some c) = (more-own t c, more-others t c)
 
   -- An event of the party turns its state, and another leaves it
   abbrev Turns : State → Event → Type 0

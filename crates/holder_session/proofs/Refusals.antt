@@ -1,5 +1,6 @@
 -- When a reply has number 19, 20, 12 or 11: the reply is the plain book's, and its number says why it is refused. What 19 and 20 leave, for
 -- every content of memory: the arrays; a close refused by 20 ends its draft.
+use Rattle.std.specs.Prelude.{Err}
 use Prim.Native.Nat.{ℕ, ◌≤◌, ◌<◌}
 use mathlib.Core.Path.{◌≡◌, sym, ap, ◌∙◌}
 use mathlib.Core.Logic.{◌↔◌}
@@ -16,7 +17,6 @@ use Rattle.calls.specs.declared.Call.{Call}
 use Rattle.calls.specs.declared.Action.{Action}
 use Rattle.calls.specs.declared.Action.TheVariants.{Begin, Add, Drop, Clear, Close, Ask}
 use Rattle.calls.specs.declared.Question.{Question}
-use Rattle.calls.specs.declared.Reply.TheVariants.{Refused}
 use Rattle.calls.specs.Replies.{reply_fields}
 use Rattle.holder_model.specs.Book.{Entry}
 use Rattle.holder_model.specs.LastTaken.{last_taken}
@@ -84,19 +84,19 @@ module _ (h n : Holder) (p : ℕ) (l : List ℕ) where
   module _ (above : parties ≤ p) where
     pub party-leaves : (a : Action) → Done h n (by p a) l → Leaves n l 19 h
     unfolding reply_fields
-    party-leaves a d = by_answer (by p a) d (reply (Refused Party) h) (no-party h (by p a) above)
+    party-leaves a d = by_answer (by p a) d (reply (Err Party) h) (no-party h (by p a) above)
 
     pub party-leaves-half : (k w : ℕ) → Prepared h n p k w l → Leaves n l 19 h
     unfolding reply_fields
-    party-leaves-half k w d = by-half k w d (preparation (Refused Party) 0 h) (prepare-no-party h p k above)
+    party-leaves-half k w d = by-half k w d (preparation (Err Party) 0 h) (prepare-no-party h p k above)
 
     pub party-leaves-image : (k w : ℕ) (bytes : List ℕ) → ImagePrepared h n p k bytes w l → Leaves n l 19 h
     unfolding reply_fields prepare_image_of
-    party-leaves-image k w bytes d = by-image k w bytes d (preparation (Refused Party) 0 h) (rw (le-leb parties p above))
+    party-leaves-image k w bytes d = by-image k w bytes d (preparation (Err Party) 0 h) (rw (le-leb parties p above))
 
   -- 20 leaves every number too, except that a close ends its draft
   module _ (there : p < parties) where
-    no_place : (a : Action) → no_such_place a ≡ true → reply (Refused Place) (cond (closes a) (ended h p) h) ≡ answer_of h (by p a)
+    no_place : (a : Action) → no_such_place a ≡ true → reply (Err Place) (cond (closes a) (ended h p) h) ≡ answer_of h (by p a)
     unfolding no_such_place closes answer_of act_of clear_of close_of prepared_of commit_of
     no_place (Clear k) e = rw (lt-leb parties p there, e)
     no_place (Close k) e = rw (lt-leb parties p there, e)
@@ -107,15 +107,15 @@ module _ (h n : Holder) (p : ℕ) (l : List ℕ) where
 
     pub place-leaves : (a : Action) → no_such_place a ≡ true → Done h n (by p a) l → Leaves n l 20 (cond (closes a) (ended h p) h)
     unfolding reply_fields
-    place-leaves a e d = by_answer (by p a) d (reply (Refused Place) (cond (closes a) (ended h p) h)) (no_place a e)
+    place-leaves a e d = by_answer (by p a) d (reply (Err Place) (cond (closes a) (ended h p) h)) (no_place a e)
 
     module _ (k : ℕ) (above : places ≤ k) where
       pub place-leaves-half : (w : ℕ) → Prepared h n p k w l → Leaves n l 20 (ended h p)
       unfolding reply_fields prepare_of prepared_of
       place-leaves-half w d =
-          by-half k w d (preparation (Refused Place) 0 (ended h p)) (rw (lt-leb parties p there, le-leb places k above))
+          by-half k w d (preparation (Err Place) 0 (ended h p)) (rw (lt-leb parties p there, le-leb places k above))
 
       pub place-leaves-image : (w : ℕ) (bytes : List ℕ) → ImagePrepared h n p k bytes w l → Leaves n l 20 h
       unfolding reply_fields prepare_image_of
       place-leaves-image w bytes d =
-          by-image k w bytes d (preparation (Refused Place) 0 h) (rw (lt-leb parties p there, le-leb places k above))
+          by-image k w bytes d (preparation (Err Place) 0 h) (rw (lt-leb parties p there, le-leb places k above))

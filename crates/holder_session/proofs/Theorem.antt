@@ -8,22 +8,21 @@ use lib.Ieee.{Float}
 use borrow.Author.Tests.{leb-false, leb-true}
 use Rattle.chart.specs.Fields.{numbers_of}
 use Rattle.calls.specs.Calls.{parties, bad_party, by}
-use Rattle.calls.specs.Replies.{reply_fields, piece_in}
+use Rattle.calls.specs.Replies.{Reply, reply_fields, piece_in}
 use Rattle.calls.specs.declared.Call.{Call}
 use Rattle.calls.specs.declared.Action.{Action}
 use Rattle.calls.specs.declared.Action.TheVariants.{Begin, Add, Drop, Clear, Close, Ask}
 use Rattle.calls.specs.declared.Question.{Question}
-use Rattle.calls.specs.declared.Reply.{Reply}
 use Rattle.drawing.specs.Points.{point_after}
 use Rattle.holder_model.specs.Book.{Book, Entry, Entered, Restored, fresh, answer, book_after}
 use Rattle.book_replies.specs.After.{reply_to}
 use Rattle.book_replies.proofs.Taken.{reply-after}
 use Rattle.book_replies.proofs.Parties.{book-append, book-next, drop-works}
-use Rattle.wire.specs.declared.Decoded.{Decoded}
-use Rattle.wire.specs.declared.Decoded.TheVariants.{Call as OfCall, Nothing}
+use Rattle.wire.specs.Wire.{Decoded}
+use Rattle.std.specs.Prelude.{Some, None}
 use Rattle.wire.specs.Wire.{decoded}
 use Rattle.holder_memory.specs.Layout.{Holder}
-use Rattle.holder_answers.specs.declared.Drafting.{Drafting}
+use Rattle.holder_answers.specs.Arrays.{Drafting}
 use Rattle.holder_answers.specs.Arrays.{with_heads, commit_of, answer_of, draft_of}
 use Rattle.holder_written.specs.Written.{Done, Prepared, draft_fields}
 use Rattle.holder_answers.proofs.Cases.{draft-unknown}
@@ -97,8 +96,8 @@ module _ (h : Holder) (xs : List Entry) (r : Represents h (book_after fresh xs))
   by_bytes : (n : Holder) (d : Decoded) (reply reply' : List ℕ) (b : Bool) → Responded h n d reply reply' b
       → (reply' ≡ numbers_for xs d reply) × Holds Idle n (After (xs ++ calls_in d))
   unfolding next_holder reply_by numbers_for calls_in
-  by_bytes n Nothing reply reply' b m = (m.replied, rw (append-nil xs) (idle {h = n} {xs = xs} (rw m.holder r)))
-  by_bytes n (OfCall c) reply reply' b m = by_call n c reply' (record { holder = m.holder; replied = m.replied })
+  by_bytes n None reply reply' b m = (m.replied, rw (append-nil xs) (idle {h = n} {xs = xs} (rw m.holder r)))
+  by_bytes n (Some c) reply reply' b m = by_call n c reply' (record { holder = m.holder; replied = m.replied })
 
   made-idle : (n : Holder) (x : Event) → Made h x n → Kept Idle n (After xs) x
   unfolding booked next more seen drafting book_after
@@ -163,8 +162,8 @@ module _ (h : Holder) (xs : List Entry) (p k w : ℕ) (done cut : List Entry) (h
   question-bytes : (n : Holder) (d : Decoded) → asks_only d ≡ true → (reply reply' : List ℕ) (b : Bool) → Responded h n d reply reply' b
       → (reply' ≡ numbers_for xs d reply) × Holds (Closing p k w) n (Between (xs ++ calls_in d) p done cut)
   unfolding asks_only next_holder reply_by numbers_for calls_in
-  question-bytes n Nothing t reply reply' b m = (m.replied, rw (append-nil xs, m.holder) (closing half))
-  question-bytes n (OfCall c) t reply reply' b m =
+  question-bytes n None t reply reply' b m = (m.replied, rw (append-nil xs, m.holder) (closing half))
+  question-bytes n (Some c) t reply reply' b m =
       let (same, kept) = by-question n c t m.holder in
       (m.replied ∙ numbers_of-same _ _ same, kept)
 

@@ -1,5 +1,5 @@
 -- What the plain book has for the same events: every reply is its reply after the calls and restores before (contract 8.2 and 13.7).
-use Rattle.std.specs.Prelude.{ℕ, Bool, true, false, cond, ◌&&◌, List, [], ◌∷◌, ◌++◌}
+use Rattle.std.specs.Prelude.{ℕ, Bool, true, false, cond, ◌&&◌, List, [], ◌∷◌, ◌++◌, Err}
 use Rattle.chart.specs.Fields.{numbers_of}
 use Rattle.chart.specs.declared.Refusal.TheVariants.{Party}
 use Rattle.calls.specs.Calls.{bad_party, by}
@@ -10,12 +10,11 @@ use Rattle.drawing.specs.Points.{point_after}
 use Rattle.images.specs.Image.{is_image, held_in}
 use Rattle.holder_model.specs.Book.{Book, Entry, Entered, Restored, fresh, restored, book_after}
 use Rattle.book_replies.specs.After.{reply_to}
-use Rattle.wire.specs.declared.Decoded.{Decoded}
-use Rattle.wire.specs.declared.Decoded.TheVariants.{Call as OfCall, Nothing}
+use Rattle.wire.specs.Wire.{Decoded}
+use Rattle.std.specs.Prelude.{Some, None}
 use Rattle.wire.specs.Wire.{decoded}
 use Rattle.holder_refinement.specs.Told.{told}
-use Rattle.holder_answers.specs.declared.Drafting.{Drafting}
-use Rattle.holder_answers.specs.declared.Drafting.TheVariants.{Refused}
+use Rattle.holder_answers.specs.Arrays.{Drafting}
 use Rattle.holder_written.specs.Written.{draft_fields}
 use Rattle.holder_bytes.specs.Responded.{is_call}
 use Rattle.holder_session.specs.Session.{Event, Fresh, Called, Drew, Sent, Drafted, Began, RestoreBegan, Ended, Cut}
@@ -38,7 +37,7 @@ more (Between xs p done cut) ys = Between (xs ++ ys) p done cut
 -- ---- what is drafted
 
 unfoldable pub told_by : Book → ℕ → Drafting
-told_by b p = cond (bad_party p) (Refused Party) (told (b p).draft)
+told_by b p = cond (bad_party p) (Err Party) (told (b p).draft)
 
 -- The first half of a close has ended its draft, as a drop does
 unfoldable pub drafting : State → ℕ → Drafting
@@ -51,12 +50,12 @@ abbrev pub numbers_to : List Entry → Call → List ℕ
 numbers_to xs c = numbers_of (reply_fields (reply_to xs c))
 
 unfoldable pub numbers_for : List Entry → Decoded → List ℕ → List ℕ
-numbers_for xs Nothing reply = reply
-numbers_for xs (OfCall c) reply = numbers_to xs c
+numbers_for xs None reply = reply
+numbers_for xs (Some c) reply = numbers_to xs c
 
 unfoldable pub calls_in : Decoded → List Entry
-calls_in Nothing = []
-calls_in (OfCall c) = Entered c ∷ []
+calls_in None = []
+calls_in (Some c) = Entered c ∷ []
 
 -- The reply of a restore
 abbrev pub restored_to : List Entry → ℕ → ℕ → List ℕ → List ℕ

@@ -1,14 +1,14 @@
 -- One party's events in a session, and the same without what they gave back (contract 8.6 and 13.7).
 use Rattle.std.specs.Prelude.{ℕ, Bool, true, false, cond, List, [], ◌∷◌, eqb}
-use Rattle.wire.specs.declared.Decoded.{Decoded}
-use Rattle.wire.specs.declared.Decoded.TheVariants.{Call as OfCall, Nothing}
+use Rattle.wire.specs.Wire.{Decoded}
+use Rattle.std.specs.Prelude.{Some, None}
 use Rattle.wire.specs.Wire.{decoded}
 use Rattle.holder_session.specs.Session.{Event, Fresh, Called, Drew, Sent, Drafted, Began, RestoreBegan, Ended, Cut}
 
 -- The event is party p's. A fresh is every party's; bytes that are not a call are nobody's
 unfoldable pub is_of : ℕ → Decoded → Bool
-is_of p Nothing = false
-is_of p (OfCall c) = eqb p c.party
+is_of p None = false
+is_of p (Some c) = eqb p c.party
 
 unfoldable pub is_own : ℕ → Event → Bool
 is_own p Fresh = true

@@ -6,7 +6,7 @@ use Rattle.chart.specs.declared.Fields.{Fields}
 use Rattle.calls.specs.Calls.{by}
 use Rattle.calls.specs.declared.Call.{Call}
 use Rattle.calls.specs.declared.Action.TheVariants.{Close}
-use Rattle.wire.specs.declared.Decoded.TheVariants.{Call as OfCall}
+use Rattle.std.specs.Prelude.{Some}
 use Rattle.wire.specs.Wire.{decoded}
 use Rattle.holder_memory.specs.Layout.{Holder}
 use Rattle.holder_model.specs.Book.{Entry}
@@ -17,7 +17,7 @@ use Rattle.holder_session.specs.Booked.{After, seen, after_all}
 pub data Gets : Event → Call → List ℕ → Type 0 where
   by_arguments : {c : Call} {reply : List ℕ} → Gets (Called c reply) c reply
   by_piece : {p k i : ℕ} {point point' : List Float} {reply : List ℕ} → Gets (Drew p k i point point' reply) (piece_call p k i) reply
-  by_bytes : {c : Call} {bytes reply reply' : List ℕ} {r : Bool} → decoded bytes ≡ OfCall c → Gets (Sent bytes reply reply' r) c reply'
+  by_bytes : {c : Call} {bytes reply reply' : List ℕ} {r : Bool} → decoded bytes ≡ Some c → Gets (Sent bytes reply reply' r) c reply'
   by_halves : {p k : ℕ} {reply : List ℕ} → Gets (Began p k reply) (by p (Close k)) reply
 
 -- In a session on memory of any content, which is made fresh first, this event comes after the calls and restores cs

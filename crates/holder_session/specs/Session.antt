@@ -8,8 +8,8 @@ use Rattle.calls.specs.declared.Action.{Action}
 use Rattle.calls.specs.declared.Action.TheVariants.{Begin, Add, Drop, Clear, Close, Ask}
 use Rattle.calls.specs.declared.Question.TheVariants.{Piece as OfPiece}
 use Rattle.drawing.specs.Points.{point_after}
-use Rattle.wire.specs.declared.Decoded.{Decoded}
-use Rattle.wire.specs.declared.Decoded.TheVariants.{Call as OfCall, Nothing}
+use Rattle.wire.specs.Wire.{Decoded}
+use Rattle.std.specs.Prelude.{Some, None}
 use Rattle.wire.specs.Wire.{decoded}
 use Rattle.holder_memory.specs.Layout.{Holder}
 use Rattle.holder_answers.specs.Arrays.{with_heads, answer_of, commit_of, draft_of}
@@ -65,8 +65,8 @@ is_question (Clear k) = false
 is_question (Close k) = false
 
 unfoldable pub asks_only : Decoded → Bool
-asks_only Nothing = true
-asks_only (OfCall c) = is_question c.action
+asks_only None = true
+asks_only (Some c) = is_question c.action
 
 unfoldable pub asking : Event → Bool
 asking (Called c reply) = is_question c.action

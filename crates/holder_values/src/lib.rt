@@ -1,4 +1,5 @@
-// A holder by value: each call hands back the next holder with its reply (contract 7.2). The calls are those in place, on its arrays.
+// A holder by value: each call hands back the next holder with its reply (contract 7.2). The calls are those in place, on its arrays. One
+// method over a closure would be no plainer: each call is lent other arrays of the holder.
 #![tactic(auto)]
 
 ghost use Rattle.std.specs.Prelude.{◌≡◌};
@@ -9,9 +10,9 @@ ghost use Rattle.holder_answers.specs.Arrays.{draft_in, answer_of, draft_of};
 ghost use Rattle.holder_answers.specs.Run.{fresh_holder};
 ghost use Rattle.holder_values.specs.Values.{kept, reached};
 
-use calls::{Action, Call, Question, Reading, Reply};
-use chart::Point;
-use holder_answers::Drafting;
+use calls::{Action, Answer, Call, Question, Reading};
+use chart::{Point, Refusal};
+use holder_answers::Draft;
 use holder_memory::{HEADS, LETTERS, NUMBERS, ROW_BYTES};
 
 // The letters of the drafts, the rows and the edges of the slots, and the heads.
@@ -27,14 +28,14 @@ pub struct Holder {
 // A reply, and the next holder.
 #[derive(Clone, Copy)]
 pub struct Answered {
-    pub reply: Reply,
+    pub reply: Result<Answer, Refusal>,
     pub holder: Holder,
 }
 
 // What a party drafts, and the holder.
 #[derive(Clone, Copy)]
 pub struct Drafted {
-    pub drafting: Drafting,
+    pub drafting: Result<Draft, Refusal>,
     pub holder: Holder,
 }
 
@@ -161,9 +162,7 @@ impl Holder {
     pub fn add(mut self, party: u8, letter: u8) -> Answered
         ensures { reached result ≡ answer_of (kept self) (by party (Action.Add letter)) }
     {
-        let mut heads = self.heads;
-        let reply = holder_calls::add(&mut self.letters, &mut heads, party, letter);
-        self.heads = heads;
+        let reply = holder_calls::add(&mut self.letters, &mut self.heads, party, letter);
         Answered {
             reply,
             holder: self,
@@ -174,19 +173,14 @@ impl Holder {
         ensures answer { reached result ≡ answer_of (kept self) (by party (Action.Close place)) }
         ensures named { CellNamed (draft_in (kept self) party) (reply_fields result.reply) }
     {
-        let letters = self.letters;
-        let mut numbers = self.numbers;
-        let mut heads = self.heads;
         let reply = holder_closes::close(
-            &letters,
+            &self.letters,
             &mut self.rows,
-            &mut numbers,
-            &mut heads,
+            &mut self.numbers,
+            &mut self.heads,
             party,
             place,
         );
-        self.numbers = numbers;
-        self.heads = heads;
         Answered {
             reply,
             holder: self,

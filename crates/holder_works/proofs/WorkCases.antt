@@ -1,7 +1,8 @@
 -- The outline in a slot: each case of the definitions, from the numbers in the arrays.
-use Prim.Native.Nat.{ℕ, ◌+◌, ◌-◌, ◌*◌, ◌≤◌, ◌<◌, min}
+use Rattle.std.specs.Prelude.{Ok, Err}
+use Prim.Native.Nat.{ℕ, ◌+◌, ◌*◌, ◌≤◌, ◌<◌, min}
 use native.Mathlib.Omega.{arith}
-use mathlib.Core.Path.{◌≡◌, refl, sym, ap, ◌∙◌}
+use mathlib.Core.Path.{◌≡◌, refl, sym, ap, ap₂, ◌∙◌}
 use mathlib.Core.Bool.{Bool, true, false, cond, ◌&&◌}
 use mathlib.Core.List.{List}
 use lib.ListN.{take, drop, get_or}
@@ -24,7 +25,7 @@ use Rattle.readings.specs.Replies.{located_reply}
 use Rattle.drawing.specs.Drawing.{stroke_at}
 use Rattle.drawing.specs.Points.{drawn_reply}
 use Rattle.calls.specs.declared.Reading.{Reading}
-use Rattle.calls.specs.declared.Reply.TheVariants.{Inside, Outside, Refused}
+use Rattle.calls.specs.declared.Answer.TheVariants.{Inside, Outside}
 use Rattle.holder_records.specs.Work.{Work, listed, work_edges, has_edges, located, spanned, read_at, drawn_at}
 use Rattle.windows.specs.Windows.{window}
 use Rattle.span_list.specs.SpanList.{spans_at}
@@ -50,19 +51,19 @@ module _ (rows : List ℕ) (numbers : List ℤ) (heads : List ℕ) (s : ℕ) whe
 -- ---- the definitions
 
 module _ (w : Work) where
-  located-none : (x : Point) → w.taken ≡ false → located w x ≡ Refused NothingAtWork
+  located-none : (x : Point) → w.taken ≡ false → located w x ≡ Err NothingAtWork
   unfolding located
   located-none x e = cond_no _ _ e
 
-  located-bad : (x : Point) → w.taken ≡ true → bad_cell x ≡ true → located w x ≡ Refused Cell
+  located-bad : (x : Point) → w.taken ≡ true → bad_cell x ≡ true → located w x ≡ Err Cell
   unfolding located
   located-bad x e b = cond_yes _ _ e ∙ cond_yes _ _ b
 
-  located-in : (x : Point) → w.taken ≡ true → bad_cell x ≡ false → in_spans w.spans x.col x.row ≡ true → located w x ≡ Inside
+  located-in : (x : Point) → w.taken ≡ true → bad_cell x ≡ false → in_spans w.spans x.col x.row ≡ true → located w x ≡ Ok Inside
   unfolding located
   located-in x e b i = cond_yes _ _ e ∙ cond_no _ _ b ∙ cond_yes _ _ i
 
-  located-out : (x : Point) → w.taken ≡ true → bad_cell x ≡ false → in_spans w.spans x.col x.row ≡ false → located w x ≡ Outside
+  located-out : (x : Point) → w.taken ≡ true → bad_cell x ≡ false → in_spans w.spans x.col x.row ≡ false → located w x ≡ Ok Outside
   unfolding located
   located-out x e b i = cond_yes _ _ e ∙ cond_no _ _ b ∙ cond_no _ _ i
 
@@ -77,26 +78,26 @@ module _ (rows : List ℕ) (numbers : List ℤ) (heads : List ℕ) (s : ℕ) whe
   unfolding work_at
   spans-are = refl
 
-  pub query-none : (x : Point) → slots ≤ s → Refused NothingAtWork ≡ located (work_at rows numbers heads s) x
+  pub query-none : (x : Point) → slots ≤ s → Err NothingAtWork ≡ located (work_at rows numbers heads s) x
   query-none x e = sym (located-none _ x (idle rows numbers heads s e))
 
   module _ (x : Point) (e : s < slots) where
-    pub query-bad : bad_cell x ≡ true → Refused Cell ≡ located (work_at rows numbers heads s) x
+    pub query-bad : bad_cell x ≡ true → Err Cell ≡ located (work_at rows numbers heads s) x
     query-bad b = sym (located-bad _ x (busy rows numbers heads s e) b)
 
     module _ (b : bad_cell x ≡ false) where
-      pub query-in : in_spans (spans_at rows s) x.col x.row ≡ true → Inside ≡ located (work_at rows numbers heads s) x
+      pub query-in : in_spans (spans_at rows s) x.col x.row ≡ true → Ok Inside ≡ located (work_at rows numbers heads s) x
       query-in i = sym (located-in _ x (busy rows numbers heads s e) b (rw spans-are i))
 
-      pub query-out : in_spans (spans_at rows s) x.col x.row ≡ false → Outside ≡ located (work_at rows numbers heads s) x
+      pub query-out : in_spans (spans_at rows s) x.col x.row ≡ false → Ok Outside ≡ located (work_at rows numbers heads s) x
       query-out i = sym (located-out _ x (busy rows numbers heads s e) b (rw spans-are i))
 
-  pub row-none : (r : ℕ) → slots ≤ s → Refused NothingAtWork ≡ spanned (work_at rows numbers heads s) r
+  pub row-none : (r : ℕ) → slots ≤ s → Err NothingAtWork ≡ spanned (work_at rows numbers heads s) r
   unfolding spanned
   row-none r e = sym (cond_no _ _ (idle rows numbers heads s e))
 
   module _ (r : ℕ) (e : s < slots) where
-    pub row-bad : side ≤ r → Refused Cell ≡ spanned (work_at rows numbers heads s) r
+    pub row-bad : side ≤ r → Err Cell ≡ spanned (work_at rows numbers heads s) r
     unfolding spanned
     row-bad h = sym (cond_yes _ _ (busy rows numbers heads s e) ∙ cond_yes _ _ (le-leb side r h))
 
@@ -119,11 +120,11 @@ module _ (rows : List ℕ) (numbers : List ℤ) (heads : List ℕ) (s : ℕ) whe
   unfolding work_edges work_at
   edges_are = refl
 
-  pub reading-none : (x : Reading) → slots ≤ s → Refused NothingAtWork ≡ read_at work x
+  pub reading-none : (x : Reading) → slots ≤ s → Err NothingAtWork ≡ read_at work x
   unfolding read_at
   reading-none x e = sym (cond_no _ _ (idle rows numbers heads s e))
 
-  pub piece-none : (n : ℕ) → slots ≤ s → Refused NothingAtWork ≡ drawn_at work n
+  pub piece-none : (n : ℕ) → slots ≤ s → Err NothingAtWork ≡ drawn_at work n
   unfolding drawn_at
   piece-none n e = sym (cond_no _ _ (idle rows numbers heads s e))
 
@@ -138,16 +139,11 @@ module _ (rows : List ℕ) (numbers : List ℤ) (heads : List ℕ) (s : ℕ) whe
 
     -- ---- the same block
 
-    pub has-apart : (b : Point) (es : List ℤ) → same_point a b ≡ false → false ≡ has_edges work b es
+    pub has_here : (b : Point) (es : List ℤ) (t : Bool) → t ≡ (same_point a b && sameℤs l es) → t ≡ has_edges work b es
     unfolding has_edges
-    has-apart b es p = rw (busy rows numbers heads s e, sym anchor, p)
-
-    pub has_here : (b : Point) (es : List ℤ) → same_point a b ≡ true → (t : Bool) → t ≡ sameℤs l es → t ≡ has_edges work b es
-    unfolding has_edges
-    has_here b es p t q =
-        q ∙ ap (λ (x : List ℤ). sameℤs x es) edges
-        ∙ sym (ap (λ (u : Bool). u && (same_point work.anchor b && sameℤs (work_edges work) es)) (busy rows numbers heads s e)
-        ∙ ap (λ (u : Bool). u && sameℤs (work_edges work) es) (ap (λ (x : Point). same_point x b) (sym anchor) ∙ p))
+    has_here b es t q =
+        q ∙ ap₂ (λ (x : Point) (m : List ℤ). same_point x b && sameℤs m es) anchor edges
+        ∙ sym (ap (λ (u : Bool). u && (same_point work.anchor b && sameℤs (work_edges work) es)) (busy rows numbers heads s e))
 
   pub has-none : (b : Point) (es : List ℤ) → slots ≤ s → false ≡ has_edges work b es
   unfolding has_edges

@@ -6,7 +6,8 @@ use Rattle.chart.specs.Fields.{numbers_of, fields_of}
 use Rattle.chart.specs.declared.Fields.{Fields}
 use Rattle.chart.proofs.ReplyLaws.{read_back}
 use Rattle.calls.specs.Calls.{by}
-use Rattle.calls.specs.Replies.{piece_in, reply_fields}
+use Rattle.calls.specs.Replies.{Reply, piece_in, reply_fields}
+use Rattle.std.specs.Prelude.{Option}
 use Rattle.calls.specs.declared.Piece.{Piece}
 use Rattle.drawing.specs.Points.{point_after}
 use Rattle.drawing.specs.Named.{PieceNamed}
@@ -15,7 +16,6 @@ use Rattle.calls.specs.declared.Call.{Call}
 use Rattle.calls.specs.declared.Action.TheVariants.{Ask}
 use Rattle.calls.specs.declared.Question.TheVariants.{Reading as OfReading, Piece as OfPiece}
 use Rattle.calls.specs.declared.Reading.{Reading}
-use Rattle.calls.specs.declared.Reply.{Reply}
 use Rattle.readings.specs.Located.{Held}
 use Rattle.holder_memory.specs.Layout.{Holder}
 use Rattle.holder_answers.specs.Arrays.{Answered, Preparation, preparation, reply, prepare_of, answer_of}
@@ -47,13 +47,13 @@ reading-told h n p k x held l d =
     rw (d.replied, read_back (reply_fields (answer_of h (by p (Ask k (OfReading x)))).reply)) (reading-named h p k x held)
 
 -- The point of the path command in the reply
-pub point-by : (h n : Holder) (c : Call) (r : Reply) → reply r n ≡ answer_of h c → (x : Piece) → x ≡ piece_in r → (a b : List Float)
+pub point-by : (h n : Holder) (c : Call) (r : Reply) → reply r n ≡ answer_of h c → (x : Option Piece) → x ≡ piece_in r → (a b : List Float)
     → b ≡ point_after x a → b ≡ point_after (piece_in (answer_of h c).reply) a
-point-by h n c r e x q a b w = w ∙ ap (λ (y : Piece). point_after y a) (q ∙ ap (λ (z : Answered). piece_in z.reply) e)
+point-by h n c r e x q a b w = w ∙ ap (λ (y : Option Piece). point_after y a) (q ∙ ap (λ (z : Answered). piece_in z.reply) e)
 
 -- What the reply and the point say. The fields of a reply are numbers of 16 bits
 pub piece-told : (h n : Holder) (p k i : ℕ) (r : Reply) → reply r n ≡ answer_of h (by p (Ask k (OfPiece i))) → (f : Fields)
-    → f ≡ reply_fields r → f.col < 2 ^ 16 → f.row < 2 ^ 16 → (x : Piece) → x ≡ piece_in r → (a b : List Float) → b ≡ point_after x a
+    → f ≡ reply_fields r → f.col < 2 ^ 16 → f.row < 2 ^ 16 → (x : Option Piece) → x ≡ piece_in r → (a b : List Float) → b ≡ point_after x a
     → (l : List ℕ) → l ≡ numbers_of f → PieceNamed (fields_of l) a b
 piece-told h n p k i r e f q col row x z a b w l v =
     let same : r ≡ (answer_of h (by p (Ask k (OfPiece i)))).reply = ap (λ (y : Answered). y.reply) e in

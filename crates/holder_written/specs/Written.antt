@@ -1,5 +1,5 @@
 -- A call as C makes it: from arrays to arrays, with the reply in seven numbers (contract 10.1 and 10.4).
-use Rattle.std.specs.Prelude.{ℕ, ◌≡◌, List}
+use Rattle.std.specs.Prelude.{ℕ, ◌≡◌, List, Ok, Err}
 use Rattle.chart.specs.Fields.{numbers_of, fields_of, accepted, no_word, refusal_fields}
 use Rattle.chart.specs.declared.Fields.{Fields}
 use Rattle.verdict.specs.Named.{CellNamed}
@@ -9,9 +9,7 @@ use Rattle.calls.specs.declared.Reading.{Reading}
 use Rattle.readings.specs.Named.{ReadingNamed}
 use Rattle.holder_records.specs.Work.{work_edges}
 use Rattle.holder_memory.specs.Layout.{Holder}
-use Rattle.holder_answers.specs.declared.Drafting.{Drafting}
-use Rattle.holder_answers.specs.declared.Drafting.TheVariants.{Refused, Open}
-use Rattle.holder_answers.specs.Arrays.{draft_in, work_in, answer_of, prepare_of}
+use Rattle.holder_answers.specs.Arrays.{Drafting, draft_in, work_in, answer_of, prepare_of}
 
 -- From arrays h to arrays n, with this reply of seven numbers
 pub record Done (h n : Holder) (c : Call) (numbers : List ℕ) : Type 0 where
@@ -34,5 +32,5 @@ ReadingTold h p k x numbers = ReadingNamed (work_in h p k).anchor (work_edges (w
 
 -- What is drafted: 19, 13, or the count in the third field and the start in the last two
 unfoldable pub draft_fields : Drafting → Fields
-draft_fields (Refused f) = refusal_fields f
-draft_fields (Open s n) = accepted no_word n s
+draft_fields (Err f) = refusal_fields f
+draft_fields (Ok d) = accepted no_word d.count d.start

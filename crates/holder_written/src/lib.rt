@@ -1,4 +1,5 @@
-// The calls on a holder in place, with the reply in seven numbers (contract 10.1 and 10.4).
+// The calls on a holder in place, with the reply in seven numbers (contract 10.1 and 10.4). Their parameters come one by one: the C
+// interface names them so. One function over a closure would say no more than the one line of `begin` or `clear`.
 #![tactic(auto)]
 
 ghost use Rattle.std.specs.Prelude.{◌≡◌, List, ℕ, ℤ};
@@ -14,9 +15,9 @@ ghost use Rattle.holder_written.specs.Written.{Done, Prepared as IsPrepared, Clo
 use calls::written::{of_reply, piece_in, put_columns, put_word};
 use calls::{Action, Question, Reading};
 use chart::reply::NUMBERS as REPLY;
-use chart::{Fields, Point, reply};
+use chart::{Fields, Point, Refusal, reply};
 use drawing::write_point;
-use holder_answers::Drafting;
+use holder_answers::Draft;
 use holder_memory::{HEADS, LETTERS, NUMBERS, ROW_BYTES};
 
 // Begin.
@@ -166,14 +167,14 @@ pub fn piece<'a>(
     reply::put(of_reply(answer), reply);
 }
 
-// What is drafted, in seven fields: 19, 13, or the count and the start.
+// What is drafted, in seven fields: 19, 13, or the count and the start. No `From` may stand for it: both types are other crates'.
 #[tactic(auto, unfolding(crate::specs::Written::draft_fields))]
-fn of_draft(d: Drafting) -> Fields
+fn of_draft(d: Result<Draft, Refusal>) -> Fields
     ensures { result ≡ draft_fields d }
 {
     match d {
-        Drafting::Refused(why) => reply::of_refusal(why),
-        Drafting::Open { start, count } => reply::accepted(reply::NO_WORD, count, start),
+        Ok(draft) => reply::accepted(reply::NO_WORD, draft.count, draft.start),
+        Err(why) => Fields::from(why),
     }
 }
 

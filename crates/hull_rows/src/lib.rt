@@ -8,13 +8,6 @@ ghost use Rattle.hull_rows.specs.parts.Ends.{LeftEnds, Lowest};
 
 use rows::{crossing, edge_start, tangents};
 
-// A 16-bit number as an index.
-fn wide(x: u16) -> usize
-    ensures { (result ≡ x) × (result < 65536) }
-{
-    x as usize
-}
-
 // Replaces the first columns `lo` of rows `b` to `t - 1` by those of the hull. Rows where an edge ends keep theirs, so this works in place.
 pub fn left(lo: &mut [u16; 256], b: usize, t: usize)
     requires { (length lo.old ≡ 256) × (b < t) × (t ≤ side) }
@@ -22,13 +15,11 @@ pub fn left(lo: &mut [u16; 256], b: usize, t: usize)
 {
     let next = tangents(lo, b, t);
     let mut i = b;
-    let mut r = b + 1;
-    while r < t {
+    for r in b + 1..t {
         i = edge_start(&next, i, r);
-        let j = wide(next[i]);
+        let j = usize::from(next[i]);
         let column = crossing(lo, i, j, r);
         lo[r] = column as u16;
-        r += 1;
     }
 }
 
@@ -38,12 +29,10 @@ pub fn lowest(lo: &[u16; 256], b: usize, t: usize) -> usize
     ensures { Lowest (rows lo.now) b t result }
 {
     let mut m = b;
-    let mut r = b + 1;
-    while r < t {
+    for r in b + 1..t {
         if lo[r] < lo[m] {
             m = r;
         }
-        r += 1;
     }
     m
 }

@@ -13,9 +13,9 @@ use borrow.Author.Tests.{eq-eqb, ne_eqb, lt-leb, lt-ltb}
 use Rattle.chart.specs.Outline.{Outline}
 use Rattle.convexity.proofs.Border.{border-form}
 use Rattle.calls.specs.Calls.{parties, places}
-use Rattle.calls.specs.declared.Reply.TheVariants.{Done}
-use Rattle.wire.specs.declared.Decoded.{Decoded}
-use Rattle.wire.specs.declared.Decoded.TheVariants.{Call as OfCall, Nothing}
+use Rattle.calls.specs.declared.Answer.TheVariants.{Done}
+use Rattle.wire.specs.Wire.{Decoded}
+use Rattle.std.specs.Prelude.{Some, None, Ok}
 use Rattle.wire.specs.Wire.{decoded}
 use Rattle.holder_model.specs.LastTaken.{last_taken}
 use Rattle.holder_model.proofs.LastTaken.{work-last-taken}
@@ -46,8 +46,8 @@ Waits (Closing p k w) = Named w
 
 sent-tidy : (h : Holder) → Tidy h.heads → (d : Decoded) → Tidy (next_holder h d).heads
 unfolding next_holder
-sent-tidy h t Nothing = t
-sent-tidy h t (OfCall c) = call-tidy h t c
+sent-tidy h t None = t
+sent-tidy h t (Some c) = call-tidy h t c
 
 made_tidy : (h n : Holder) (x : Event) → Made h x n → Tidy h.heads → Tidy n.heads
 made_tidy h n x (was-fresh e) t = rw e fresh-tidy
@@ -138,7 +138,7 @@ module _ (h n : Holder) (es : List Event) (session : Session Idle h (Fresh ∷ e
   pub session-whole : whole_at n p k ≡ true
   session-whole = whole-at n p k word last at-work there
 
-  pub session-checked : check_of n p k ≡ Done
+  pub session-checked : check_of n p k ≡ Ok Done
   unfolding check_of
   session-checked = rw (lt-leb parties p there, lt-leb places k inside, session-whole)
 

@@ -1,4 +1,5 @@
 -- Damaged images are refused by 26, and a refused restore leaves every number.
+use Rattle.std.specs.Prelude.{Result, Ok, Err}
 use Prim.Native.Nat.{ℕ, ◌%◌, ◌<◌}
 use mathlib.Core.Path.{◌≡◌, refl}
 use mathlib.Core.Bool.{Bool, true, false, cond}
@@ -8,12 +9,12 @@ use Rattle.base.proofs.BelowLaws.{not-held}
 use Rattle.chart.specs.Outline.{Outline}
 use Rattle.chart.specs.declared.Point.{Point}
 use Rattle.chart.specs.declared.Refusal.TheVariants.{Image}
-use Rattle.chart.specs.declared.Verdict.{Verdict}
-use Rattle.chart.specs.declared.Verdict.TheVariants.{Taken, Refused}
+use Rattle.chart.specs.declared.Refusal.{Refusal}
+use Rattle.chart.specs.declared.Taken.{Taken}
 use Rattle.judge.specs.Judged.{judged_of}
 use Rattle.calls.specs.Calls.{parties, places, bad_party, bad_place}
 use Rattle.calls.specs.Replies.{reply_fields}
-use Rattle.calls.specs.declared.Reply.TheVariants.{Taken as WasTaken, Same, Refused as WasRefused}
+use Rattle.calls.specs.declared.Answer.TheVariants.{Taken as WasTaken, Same}
 use Rattle.checksum.specs.Checksum.{message}
 use Rattle.checksum.specs.Damage.{Bytes, differences, total, Within, Far}
 use Rattle.images.specs.Image.{image_bytes, IsImage, held_in, is_image}
@@ -37,15 +38,15 @@ module _ (h : Holder) (p k : ℕ) where
   either true x y f g = f
   either false x y f g = g
 
-  accepted : (t : Bool) (n : ℕ) (a : Point) → (reply_fields (cond t (Same n a) (WasTaken n a))).number ≡ 0
+  accepted : (t : Bool) (n : ℕ) (a : Point) → (reply_fields (cond t (Ok (Same n a)) (Ok (WasTaken n a)))).number ≡ 0
   unfolding reply_fields
   accepted true n a = refl
   accepted false n a = refl
 
-  by-verdict : (o : Outline) (v : Verdict) → Leaves h (committed p k (outline_prepared_by h p k o (judged_of o) v))
+  by-verdict : (o : Outline) (v : Result Taken Refusal) → Leaves h (committed p k (outline_prepared_by h p k o (judged_of o) v))
   unfolding outline_prepared_by
-  by-verdict o (Refused f) r = rw (commit-zero h.heads p k) refl
-  by-verdict o (Taken n a) r = absurd (r (accepted (has_edges (work_in h p k) a (listed (judged_of o).numbers n)) n a))
+  by-verdict o (Err f) r = rw (commit-zero h.heads p k) refl
+  by-verdict o (Ok t) r = absurd (r (accepted (has_edges (work_in h p k) t.anchor (listed (judged_of o).numbers t.edges)) t.edges t.anchor))
 
   by-letters : (o : Outline) (l : List ℕ) → Leaves h (committed p k (image_prepared h p k o l))
   unfolding image_prepared reply_fields
@@ -65,7 +66,7 @@ module _ (h : Holder) (p k : ℕ) where
 module _ (h : Holder) (p k : ℕ) (there : p < parties) (inside : k < places) (d : List ℕ) where
   -- Bytes that are not an image
   abbrev Is26 : Type 0
-  Is26 = restore_of h p k d ≡ reply (WasRefused Image) h
+  Is26 = restore_of h p k d ≡ reply (Err Image) h
 
   -- Any other length
   pub length-26 : (length d ≡ image_bytes → ⊥) → Is26

@@ -1,13 +1,14 @@
 -- The first half of a restore writes the slot that no place names, as that of a close does. So every question gets the answer from before it,
 -- whatever the arrays hold, and no number of the other party is written.
+use Rattle.std.specs.Prelude.{Result, Ok, Err}
 use Prim.Native.Nat.{ℕ, ◌<◌}
 use mathlib.Core.Path.{◌≡◌, refl}
 use mathlib.Core.Bool.{Bool, true, false}
 use mathlib.Core.List.{List, [], ◌∷◌}
 use borrow.Author.Tests.{leb-false}
 use Rattle.chart.specs.Outline.{Outline}
-use Rattle.chart.specs.declared.Verdict.{Verdict}
-use Rattle.chart.specs.declared.Verdict.TheVariants.{Taken, Refused}
+use Rattle.chart.specs.declared.Refusal.{Refusal}
+use Rattle.chart.specs.declared.Taken.{Taken}
 use Rattle.judge.specs.Judged.{judged_of}
 use Rattle.calls.specs.Calls.{parties, places, bad_party, bad_place, by}
 use Rattle.calls.specs.declared.Action.TheVariants.{Ask}
@@ -25,10 +26,11 @@ use Rattle.holder_refinement.proofs.Numbers.{OthersKept, kept_self, kept_next, f
 module _ (h : Holder) (fit : Fits h) (p : ℕ) (there : p < parties) where
   -- ---- what is written, in the free slot
 
-  by-verdict : (k : ℕ) (o : Outline) (v : Verdict) → Beside h (outline_prepared_by h p k o (judged_of o) v).holder (free_slot h.heads p)
+  by-verdict : (k : ℕ) (o : Outline) (v : Result Taken Refusal)
+      → Beside h (outline_prepared_by h p k o (judged_of o) v).holder (free_slot h.heads p)
   unfolding outline_prepared_by
-  by-verdict k o (Refused f) = beside-self h (free_slot h.heads p)
-  by-verdict k o (Taken n a) = filled_beside h fit p there a (judged_of o).numbers n o (judged-size o)
+  by-verdict k o (Err f) = beside-self h (free_slot h.heads p)
+  by-verdict k o (Ok t) = filled_beside h fit p there t.anchor (judged_of o).numbers t.edges o (judged-size o)
 
   with-letters : (k : ℕ) (o : Outline) (w : List ℕ) → (w ≡ [] → ⊥) → Beside h (image_prepared h p k o w).holder (free_slot h.heads p)
   unfolding image_prepared
@@ -37,10 +39,10 @@ module _ (h : Holder) (fit : Fits h) (p : ℕ) (there : p < parties) where
 
   -- ---- what is written, of the party
 
-  own-verdict : (k : ℕ) (o : Outline) (v : Verdict) → OthersKept h (outline_prepared_by h p k o (judged_of o) v).holder p
+  own-verdict : (k : ℕ) (o : Outline) (v : Result Taken Refusal) → OthersKept h (outline_prepared_by h p k o (judged_of o) v).holder p
   unfolding outline_prepared_by
-  own-verdict k o (Refused f) = kept_self h p
-  own-verdict k o (Taken n a) = filled-kept h fit p there a (judged_of o).numbers n o (judged-size o)
+  own-verdict k o (Err f) = kept_self h p
+  own-verdict k o (Ok t) = filled-kept h fit p there t.anchor (judged_of o).numbers t.edges o (judged-size o)
 
   own-letters : (k : ℕ) (o : Outline) (w : List ℕ) → k < places → OthersKept h (image_prepared h p k o w).holder p
   unfolding image_prepared

@@ -1,5 +1,6 @@
 -- A check notices any change within the rows, or within anchor and counted edges: of two whole works the one decides the other. The words
 -- lie so far apart that up to seven changed bits of a place's word are noticed too.
+use Rattle.std.specs.Prelude.{Err}
 use Prim.Native.Nat.{ℕ, ◌<◌, ◌≤◌}
 use native.Mathlib.Omega.{arith}
 use mathlib.Core.Path.{◌≡◌, refl, sym, ap, ap₂, subst, ◌∙◌}
@@ -12,7 +13,6 @@ use Rattle.base.proofs.BelowLaws.{not-held, every-at}
 use Rattle.chart.specs.Outline.{outline}
 use Rattle.chart.specs.declared.Refusal.TheVariants.{Damaged}
 use Rattle.calls.specs.Calls.{parties, places}
-use Rattle.calls.specs.declared.Reply.TheVariants.{Refused}
 use Rattle.convexity.specs.FromEdges.{letters_from}
 use Rattle.convexity.specs.SameBlock.{SameCells}
 use Rattle.convexity.proofs.SameBlock.{same-cells-iff}
@@ -95,7 +95,7 @@ word-noticed h p k t l other d =
 
 -- A place of h has an outline at work and is whole. Of g, the same holder after damage, a check says so
 module _ (h g : Holder) (p : ℕ) (there : p < parties) (k : ℕ) (inside : k < places) where
-  damaged : whole_at g p k ≡ false → check_of g p k ≡ Refused Damaged
+  damaged : whole_at g p k ≡ false → check_of g p k ≡ Err Damaged
   unfolding check_of
   damaged e = rw (lt-leb parties p there, lt-leb places k inside, e) refl
 
@@ -111,21 +111,21 @@ module _ (h g : Holder) (p : ℕ) (there : p < parties) (k : ℕ) (inside : k < 
     -- Any change of the rows; any change of the anchor and the counted edges
     pub check-rows : word_in g p k ≡ word_in h p k → (work_in g p k).anchor ≡ (work_in h p k).anchor
         → work_edges (work_in g p k) ≡ work_edges (work_in h p k) → ((work_in g p k).spans ≡ (work_in h p k).spans → ⊥)
-        → check_of g p k ≡ Refused Damaged
+        → check_of g p k ≡ Err Damaged
     check-rows w a e differ = damaged (still w (rows-noticed (work_in h p k) (work_in g p k) work-whole a e differ))
 
     pub check-edges : word_in g p k ≡ word_in h p k → (work_in g p k).spans ≡ (work_in h p k).spans
         → ((work_in g p k).anchor ≡ (work_in h p k).anchor → work_edges (work_in g p k) ≡ work_edges (work_in h p k) → ⊥)
-        → check_of g p k ≡ Refused Damaged
+        → check_of g p k ≡ Err Damaged
     check-edges w e differ = damaged (still w (edges-noticed (work_in h p k) (work_in g p k) work-whole e differ))
 
   -- Up to seven bits of the word that names slot t, or of the word 0
   pub check-word : (t : ℕ) → t < own → word_in h p k ≡ word_of t → (word_in g p k ≡ word_in h p k → ⊥)
-      → apart (word_in g p k) (word_in h p k) < 8 → check_of g p k ≡ Refused Damaged
+      → apart (word_in g p k) (word_in h p k) < 8 → check_of g p k ≡ Err Damaged
   check-word t l w other d =
       damaged (word-noticed g p k t l (λ e. other (e ∙ sym w)) (subst (λ (x : ℕ). apart (word_in g p k) x < 8) w d))
 
   pub check-cleared : word_in h p k ≡ 0 → (word_in g p k ≡ word_in h p k → ⊥) → apart (word_in g p k) (word_in h p k) < 8
-      → check_of g p k ≡ Refused Damaged
+      → check_of g p k ≡ Err Damaged
   check-cleared w other d =
       damaged (cleared-noticed g p k (λ e. other (e ∙ sym w)) (subst (λ (x : ℕ). apart (word_in g p k) x < 8) w d))

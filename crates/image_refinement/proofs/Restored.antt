@@ -1,4 +1,5 @@
 -- A restore leaves the other places and every draft, and at its place what was there, nothing, or an outline that the test takes.
+use Rattle.std.specs.Prelude.{Result, Ok, Err}
 use Prim.Native.Nat.{ℕ, ◌≤◌, ◌<◌}
 use native.Mathlib.Omega.{arith}
 use native.Mathlib.Decide.{ℕ_discrete}
@@ -11,8 +12,9 @@ use lib.IntN.{ℤ}
 use borrow.Author.Tests.{lt-leb}
 use Rattle.chart.specs.Outline.{Outline}
 use Rattle.chart.specs.declared.Point.{Point}
-use Rattle.chart.specs.declared.Verdict.{Verdict}
-use Rattle.chart.specs.declared.Verdict.TheVariants.{Taken, Refused}
+use Rattle.chart.specs.declared.Refusal.{Refusal}
+use Rattle.chart.specs.declared.Taken.{Taken}
+use Rattle.chart.specs.Taken.{taken_with}
 use Rattle.convexity.specs.Border.{HasEdges}
 use Rattle.lattice.proofs.WalkLaws.{walked}
 use Rattle.verdict.specs.Verdict.{verdict_of}
@@ -22,7 +24,7 @@ use Rattle.judge.proofs.JudgedLaws.{judged-verdict, judged-numbers}
 use Rattle.spans.specs.Spans.{spans_of}
 use Rattle.border_model.proofs.Outlines.{has-taken, taken-has}
 use Rattle.calls.specs.Calls.{parties, places}
-use Rattle.calls.specs.declared.Reply.TheVariants.{Done}
+use Rattle.calls.specs.declared.Answer.TheVariants.{Done}
 use Rattle.images.specs.Image.{IsImage, is_image, held_in}
 use Rattle.images.proofs.Images.{image-iff, image-of, image-held}
 use Rattle.holder_records.specs.Work.{Work, work_edges, removed, replaced}
@@ -61,26 +63,26 @@ pub data Put (h : Holder) (p k : ℕ) (o : Outline) (x : Answered) : Type 0 wher
   put : (y : Acted) → Turned h p k x y → y.draft ≡ draft_of h p → Working y.work o → Put h p k o x
 
 module _ (h : Holder) (fit : Fits h) (p : ℕ) (there : p < parties) (k : ℕ) (inside : k < places) where
-  by-verdict : (o : Outline) (v : Verdict) → (judged_of o).verdict ≡ v
+  by-verdict : (o : Outline) (v : Result Taken Refusal) → (judged_of o).verdict ≡ v
       → Put h p k o (committed p k (outline_prepared_by h p k o (judged_of o) v))
   unfolding outline_prepared_by
-  by-verdict o (Refused f) e = left (rw (commit-zero h.heads p k) refl)
-  by-verdict o (Taken n a) e =
-      let is : verdict_of o ≡ Taken n a = sym (judged-verdict o) ∙ e in
+  by-verdict o (Err f) e = left (rw (commit-zero h.heads p k) refl)
+  by-verdict o (Ok t) e =
+      let is : verdict_of o ≡ taken_with t.edges t.anchor = sym (judged-verdict o) ∙ e in
       let es : List ℤ = (judged_of o).numbers in
-      let own : es ≡ numbers_of o (Taken n a) = judged-numbers o ∙ ap (numbers_of o) is in
-      let h₁ : Holder = filled h (free_slot h.heads p) a es n (spans_of o) in
+      let own : es ≡ numbers_of o (taken_with t.edges t.anchor) = judged-numbers o ∙ ap (numbers_of o) is in
+      let h₁ : Holder = filled h (free_slot h.heads p) t.anchor es t.edges (spans_of o) in
       rw (sym (commit-done h₁.heads p k (word_of (free_tag h.heads p)) there inside
       (word-not-zero (free_tag h.heads p) (tag_below h.heads p))))
-      (put (acted _ (draft_of h p) (replaced a es n (spans_of o)))
-      (Turns.restored h fit p there k inside a n o es (judged-size o) _) refl (rw own (taken-working o n a is)))
+      (put (acted _ (draft_of h p) (replaced t.anchor es t.edges (spans_of o)))
+      (Turns.restored h fit p there k inside t.anchor t.edges o es (judged-size o) _) refl (rw own (taken-working o t.edges t.anchor is)))
 
   outline-put : (o : Outline) → Put h p k o (committed p k (outline_prepared h p k o))
   outline-put o = by-verdict o (judged_of o).verdict refl
 
   -- What the image of an outline with these letters leaves
   data Brought (o : Outline) (l : List ℕ) (x : Answered) : Type 0 where
-    bare : l ≡ [] → Turned h p k x (acted Done (draft_of h p) (removed (work_in h p k))) → Brought o l x
+    bare : l ≡ [] → Turned h p k x (acted (Ok Done) (draft_of h p) (removed (work_in h p k))) → Brought o l x
     one : Put h p k o x → Brought o l x
 
   image-brought : (o : Outline) (l : List ℕ) → Brought o l (committed p k (image_prepared h p k o l))
@@ -117,20 +119,21 @@ module _ (h : Holder) (fit : Fits h) (p : ℕ) (there : p < parties) (k : ℕ) (
       rw (lt-leb parties p there, lt-leb places k inside, image-of bytes o i)
       (ap (λ (x : Outline). committed p k (image_prepared h p k x x.letters)) (image-held i))
 
-  work-put : (o : Outline) (n : ℕ) (a : Point) (v : Verdict) → (judged_of o).verdict ≡ v → v ≡ Taken n a
+  work-put : (o : Outline) (n : ℕ) (a : Point) (v : Result Taken Refusal) → (judged_of o).verdict ≡ v → v ≡ taken_with n a
       → Working (work_in (committed p k (outline_prepared_by h p k o (judged_of o) v)).holder p k) o
   unfolding outline_prepared_by
-  work-put o n a (Refused f) e t = let z : ◌≡◌ {A = ℕ} 0 1 = cc in absurd (omega (arith, z))
-  work-put o n a (Taken m c) e t =
-      let is : verdict_of o ≡ Taken m c = sym (judged-verdict o) ∙ e in
+  work-put o n a (Err f) e t = let z : ◌≡◌ {A = ℕ} 0 1 = cc in absurd (omega (arith, z))
+  work-put o n a (Ok u) e t =
+      let is : verdict_of o ≡ taken_with u.edges u.anchor = sym (judged-verdict o) ∙ e in
       let es : List ℤ = (judged_of o).numbers in
-      let own : es ≡ numbers_of o (Taken m c) = judged-numbers o ∙ ap (numbers_of o) is in
-      let h₁ : Holder = filled h (free_slot h.heads p) c es m (spans_of o) in
+      let own : es ≡ numbers_of o (taken_with u.edges u.anchor) = judged-numbers o ∙ ap (numbers_of o) is in
+      let h₁ : Holder = filled h (free_slot h.heads p) u.anchor es u.edges (spans_of o) in
       rw (sym (commit-done h₁.heads p k (word_of (free_tag h.heads p)) there inside
       (word-not-zero (free_tag h.heads p) (tag_below h.heads p))))
-      ((Turns.restored h fit p there k inside c m o es (judged-size o) Done).work (some o) (rw own (taken-working o m c is)))
+      ((Turns.restored h fit p there k inside u.anchor u.edges o es (judged-size o) (Ok Done)).work (some o)
+      (rw own (taken-working o u.edges u.anchor is)))
 
-  pub restored-taken : (bytes : List ℕ) (o : Outline) → IsImage bytes o → (n : ℕ) (a : Point) → verdict_of o ≡ Taken n a
+  pub restored-taken : (bytes : List ℕ) (o : Outline) → IsImage bytes o → (n : ℕ) (a : Point) → verdict_of o ≡ taken_with n a
       → Working (work_in (restore_of h p k bytes).holder p k) o
   restored-taken bytes o i n a e =
       rw (restored-is bytes o i) (go o.letters (walked o (taken-facts o n a e).reaches.simple).long)

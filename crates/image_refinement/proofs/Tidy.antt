@@ -1,4 +1,5 @@
 -- After calls and restores a place's word is 0 or names a slot: only a clear and a commit write a place, and a commit only a slot's word.
+use Rattle.std.specs.Prelude.{Result, Ok, Err}
 use Prim.Native.Nat.{ℕ, ◌+◌, ◌≤◌, ◌<◌}
 use native.Mathlib.Decide.{dec_lt, ℕ_discrete}
 use native.Mathlib.Omega.{arith}
@@ -15,8 +16,8 @@ use Rattle.base.proofs.BelowLaws.{every-at}
 use Rattle.chart.specs.Limits.{longest}
 use Rattle.chart.specs.Outline.{Outline}
 use Rattle.chart.specs.declared.Point.{Point}
-use Rattle.chart.specs.declared.Verdict.{Verdict}
-use Rattle.chart.specs.declared.Verdict.TheVariants.{Taken, Refused}
+use Rattle.chart.specs.declared.Refusal.{Refusal}
+use Rattle.chart.specs.declared.Taken.{Taken}
 use Rattle.lattice.specs.Refusals.{bad_start}
 use Rattle.judge.specs.declared.Judged.{Judged}
 use Rattle.judge.specs.Judged.{judged_of}
@@ -85,10 +86,10 @@ either true x y a b = a
 either false x y a b = b
 
 module _ (h : Holder) (tidy : Tidy h.heads) (p : ℕ) (k : ℕ) where
-  outline-tidy : (o : Outline) (j : Judged) (v : Verdict) → Prepares (outline_prepared_by h p k o j v)
+  outline-tidy : (o : Outline) (j : Judged) (v : Result Taken Refusal) → Prepares (outline_prepared_by h p k o j v)
   unfolding outline_prepared_by
-  outline-tidy o j (Refused f) = (tidy, inl refl)
-  outline-tidy o j (Taken n a) = (filled-tidy h.heads (free_slot h.heads p) a n tidy, word-named h.heads p)
+  outline-tidy o j (Err f) = (tidy, inl refl)
+  outline-tidy o j (Ok t) = (filled-tidy h.heads (free_slot h.heads p) t.anchor t.edges tidy, word-named h.heads p)
 
   image-tidy : (o : Outline) (l : List ℕ) → Prepares (image_prepared h p k o l)
   unfolding image_prepared

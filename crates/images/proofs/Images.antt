@@ -1,16 +1,19 @@
 -- An image has 622 bytes and gives its outline back; 622 bytes that agree with a record and have their checksum are an image.
-use Prim.Native.Nat.{ℕ, zero, suc, ◌+◌, ◌-◌, ◌/◌, ◌%◌, ◌≤◌, ◌<◌}
-use native.Mathlib.Decide.{dec_lt, ℕ_discrete}
+use Prim.Native.Nat.{ℕ, ◌+◌, ◌-◌, ◌/◌, ◌%◌, ◌≤◌, ◌<◌}
 use native.Mathlib.Omega.{arith}
 use mathlib.Core.Path.{◌≡◌, refl, sym, ap, ap₂, subst, ◌∙◌}
 use mathlib.Core.Logic.{◌↔◌}
 use mathlib.Core.Bool.{true, false≢true, and-eq-true_iff}
-use mathlib.Core.List.{List, [], ◌∷◌, ◌++◌}
-use lib.ListN.{length, get_or, take, drop, set, replicate, length-append, length-take}
-use lib.ListN.{length-replicate, length-set, get_or-append}
+use mathlib.Core.List.{List, [], ◌∷◌, ◌++◌, append_assoc, append-nil}
+use lib.ListN.{length, get_or, take, drop, replicate, length-append, length-take}
+use lib.ListN.{length-replicate, length-drop, get_or-append}
 use lib.Dec.{eqb, leb}
 use borrow.Author.Tests.{eqb-true, eq-eqb, leb-true, le-leb}
-use lib.Seq.{take-append-le, take_at, ext_get_or, get_or-append-add, get_or-set_same, get_or-set_other, get_or-take}
+use lib.Seq.{take-append-le, take_at, ext_get_or}
+use Rattle.std.proofs.lemmas.List.{get_or-replicate, drop_at, drop_all, drop-take, take_all, take-take, take-append-drop}
+use Rattle.std.proofs.lemmas.Slice.{take-put_mid}
+use borrow.Rule.Slice.PartMut.{put_mid}
+use Rattle.std.specs.Prelude.{Some, None}
 use Rattle.chart.specs.Limits.{longest}
 use Rattle.chart.specs.Outline.{Outline, at, outline}
 use Rattle.checksum.specs.Checksum.{checksum}
@@ -18,7 +21,6 @@ use Rattle.checksum.specs.Stored.{little_endian, stored, Stored}
 use Rattle.checksum.proofs.Residue.{stored-length}
 use Rattle.images.specs.Image.{header, body_bytes, image_bytes, padded, image_of, IsImage, count_in, start_in, held_in, same_bytes, is_image}
 use Rattle.images.specs.Image.{Reads}
-use Rattle.images.specs.declared.Found.TheVariants.{NotImage, Outline as OfOutline}
 
 -- ---- the record and the zeros
 
@@ -114,160 +116,171 @@ image-iff b = (
 pub image-of : (b : List ℕ) (o : Outline) → IsImage b o → is_image b ≡ true
 image-of b o i = (image-iff b).1 (rw (image-held i) i)
 
--- ---- bytes that agree
+-- ---- bytes that are the record and zeros, and then their checksum
 
-abbrev pub Agrees : List ℕ → Outline → Type 0
-Agrees b o = (k : ℕ) → k < body_bytes → get_or b k 0 ≡ get_or (padded o) k 0
+-- The bytes behind n letters, up to the checksum
+abbrev pub behind : List ℕ → ℕ → List ℕ
+behind b n = take (longest - n) (drop n (take (length b - header) (drop header b)))
 
-module _ (b : List ℕ) (o : Outline) where
-  pub image-agrees : IsImage b o → Agrees b o
-  image-agrees i k l = ap (λ (x : List ℕ). get_or x k 0) i.bytes ∙ image-byte o i.short k l
+behind-is : (b : List ℕ) (n : ℕ) → behind b n ≡ take (longest - n) (drop n (drop header b))
+behind-is b n =
+    ap (λ (l : List ℕ). take (longest - n) (drop n l)) (take_all (length b - header) (drop header b) (omega (arith, length-drop header b)))
 
-  pub agreed-image : length b ≡ image_bytes → Stored b → length o.letters ≤ longest → Agrees b o → IsImage b o
-  unfolding image_of stored
-  agreed-image size s short same =
-      let long : length s.front ≡ body_bytes = omega (arith, size, ap length s.whole, stored-length s.front) in
-      let front : s.front ≡ padded o =
-      ext_get_or 0 s.front (padded o) (long ∙ sym (padded-length o short))
-      (λ k l. sym (get_or-append s.front (little_endian (checksum s.front)) 0 k l)
-      ∙ ap (λ (x : List ℕ). get_or x k 0) (sym s.whole) ∙ same k (omega arith)) in
-      record { bytes = s.whole ∙ ap stored front; short = short }
+abbrev pub Zeros : List ℕ → Type 0
+Zeros l = (k : ℕ) → k < length l → get_or l k 0 ≡ 0
 
--- ---- a byte of the record
+zeros-length : (l : List ℕ) → Zeros l → l ≡ replicate (length l) 0
+zeros-length l z =
+    ext_get_or 0 l (replicate (length l) 0) (sym (length-replicate {A = ℕ} (length l) 0))
+    (λ k h. z k h ∙ sym (get_or-replicate (length l) k 0 0 h))
 
-drop-header : (a b c d e f : ℕ) (w : List ℕ) (k : ℕ) → get_or (a ∷ b ∷ c ∷ d ∷ e ∷ f ∷ w) (header + k) 0 ≡ get_or w k 0
-drop-header a b c d e f w k = get_or-append-add (a ∷ b ∷ c ∷ d ∷ e ∷ f ∷ []) w k 0
+pub image-behind : {b : List ℕ} {o : Outline} → IsImage b o → behind b (length o.letters) ≡ replicate (longest - length o.letters) 0
+unfolding image_of stored padded
+image-behind {b} {o} i =
+    let n = length o.letters in
+    let zeros : List ℕ = replicate (longest - n) 0 in
+    let sum : List ℕ = little_endian (checksum (padded o)) in
+    ap (λ (l : List ℕ). behind l n) i.bytes
+    ∙ behind-is (image_of o) n
+    ∙ ap (λ (l : List ℕ). take (longest - n) (drop n l)) (append_assoc o.letters zeros sum)
+    ∙ ap (take (longest - n)) (drop_at o.letters (zeros ++ sum) n refl)
+    ∙ take_at zeros sum (longest - n) (length-replicate {A = ℕ} (longest - n) 0)
 
-module _ (o : Outline) where
-  pub padded-letter : (k : ℕ) → k < length o.letters → get_or (padded o) (header + k) 0 ≡ get_or o.letters k 0
-  unfolding padded
-  padded-letter k l =
-      drop-header _ _ _ _ _ _ (o.letters ++ replicate (longest - length o.letters) 0) k
-      ∙ get_or-append o.letters (replicate (longest - length o.letters) 0) 0 k l
+-- A list begins with its first six
+first-six : (b : List ℕ) → header ≤ length b
+    → b ≡ get_or b 0 0 ∷ get_or b 1 0 ∷ get_or b 2 0 ∷ get_or b 3 0 ∷ get_or b 4 0 ∷ get_or b 5 0 ∷ drop header b
+first-six [] l = absurd (omega arith)
+first-six (p ∷ []) l = absurd (omega arith)
+first-six (p ∷ q ∷ []) l = absurd (omega arith)
+first-six (p ∷ q ∷ r ∷ []) l = absurd (omega arith)
+first-six (p ∷ q ∷ r ∷ s ∷ []) l = absurd (omega arith)
+first-six (p ∷ q ∷ r ∷ s ∷ t ∷ []) l = absurd (omega arith)
+first-six (p ∷ q ∷ r ∷ s ∷ t ∷ u ∷ b) l = refl
 
-  pub padded-zero : (k : ℕ) → length o.letters ≤ k → get_or (padded o) (header + k) 0 ≡ 0
-  unfolding padded
-  padded-zero k l =
-      let e : length o.letters + (k - length o.letters) ≡ k = omega arith in
-      let zeros : List ℕ = replicate (longest - length o.letters) 0 in
-      drop-header _ _ _ _ _ _ (o.letters ++ zeros) k
-      ∙ ap (λ (j : ℕ). get_or (o.letters ++ zeros) j 0) (sym e)
-      ∙ get_or-append-add o.letters zeros (k - length o.letters) 0 ∙ zero-at (longest - length o.letters) (k - length o.letters)
-    where
-      zero-at : (n k : ℕ) → ◌≡◌ {A = ℕ} (get_or (replicate n 0) k 0) 0
-      zero-at zero k = refl
-      zero-at (suc n) zero = refl
-      zero-at (suc n) (suc k) = zero-at n k
+-- The bytes of a record one by one
+same-record : (a b low high : ℕ) (v : List ℕ) (o : Outline) → a ≡ 75 → b ≡ 79 → low ≡ length o.letters % 256 → high ≡ length o.letters / 256
+    → v ≡ o.letters ++ replicate (longest - length o.letters) 0 → a ∷ b ∷ o.start.col ∷ o.start.row ∷ low ∷ high ∷ v ≡ padded o
+unfolding padded
+same-record a b low high v o first second l h e = rw (first, second, l, h, e) refl
+
+parted : (n m : ℕ) (l : List ℕ) → n ≤ m → take m l ≡ take n l ++ take (m - n) (drop n l)
+parted n m l h =
+    let e : m ≡ n + (m - n) = omega arith in
+    sym (take-append-drop n (take m l))
+    ∙ ap₂ ◌++◌ (take-take n m l h) (ap (λ (k : ℕ). drop n (take k l)) e ∙ drop-take n (m - n) l)
+
+-- Bytes that begin with a record and zeros, and carry their checksum, are an image
+pub stored-image : (b : List ℕ) (o : Outline) → length b ≡ image_bytes → Stored b → length o.letters ≤ longest
+    → take body_bytes b ≡ padded o → IsImage b o
+unfolding image_of stored
+stored-image b o size s short same =
+    let long : length s.front ≡ body_bytes = omega (arith, size, ap length s.whole, stored-length s.front) in
+    let front : s.front ≡ padded o =
+    sym (take_at s.front (little_endian (checksum s.front)) body_bytes long) ∙ ap (take body_bytes) (sym s.whole) ∙ same in
+    record { bytes = s.whole ∙ ap stored front; short = short }
 
 -- ---- what bytes are read as
 
 module _ (b : List ℕ) where
-  pub read_length : (length b ≡ image_bytes → ⊥) → Reads b NotImage
+  pub read_length : (length b ≡ image_bytes → ⊥) → Reads b None
   unfolding Reads
   read_length e o i = e (image-sized i)
 
-  pub read-stored : (Stored b → ⊥) → Reads b NotImage
+  pub read-stored : (Stored b → ⊥) → Reads b None
   unfolding Reads
   read-stored e o i = e (image-stored i)
 
-  pub read_count : longest < count_in b → Reads b NotImage
+  pub read-first : (get_or b 0 0 ≡ 75 → ⊥) → Reads b None
+  unfolding Reads image_of stored padded
+  read-first e o i = e (ap (λ (l : List ℕ). get_or l 0 0) i.bytes)
+
+  pub read-second : (get_or b 1 0 ≡ 79 → ⊥) → Reads b None
+  unfolding Reads image_of stored padded
+  read-second e o i = e (ap (λ (l : List ℕ). get_or l 1 0) i.bytes)
+
+  pub read_count : longest < count_in b → Reads b None
   unfolding Reads
   read_count e o i = omega (arith, image-count i, i.short)
 
-  pub read-differs : (w : List ℕ) → w ≡ take (count_in b) (drop header b) → (Agrees b (outline (start_in b) w) → ⊥) → Reads b NotImage
-  unfolding Reads held_in
-  read-differs w t e o i = e (rw t (rw (sym (image-held i)) at (image-agrees b o i)))
+  pub read-filled : (n : ℕ) → n ≡ count_in b → (Zeros (behind b n) → ⊥) → Reads b None
+  unfolding Reads
+  read-filled n e f o i =
+      f
+      (subst Zeros (sym (ap (behind b) (e ∙ image-count i) ∙ image-behind i))
+      (λ k l. get_or-replicate (longest - length o.letters) k 0 0
+      (omega (arith, length-replicate {A = ℕ} (longest - length o.letters) 0))))
 
   pub read_whole :
-      (w : List ℕ) → w ≡ take (count_in b) (drop header b) → length b ≡ image_bytes → Stored b → count_in b ≤ longest
-      → Agrees b (outline (start_in b) w) → Reads b (OfOutline (start_in b) (count_in b))
+      (n : ℕ) → n ≡ count_in b → length b ≡ image_bytes → get_or b 4 0 < 256 → Stored b → get_or b 0 0 ≡ 75 → get_or b 1 0 ≡ 79
+      → n ≤ longest → Zeros (behind b n) → Reads b (Some (record { start = start_in b; count = count_in b }))
   unfolding Reads held_in
-  read_whole w t size s short e =
-      let few : length w ≤ longest = rw t (omega (arith, length-take (count_in b) (drop header b))) in
-      (size, refl, refl, short, rw t at (agreed-image b (outline (start_in b) w) size s few e))
+  read_whole n e size byte s first second short zeros =
+      let rest : List ℕ = drop header b in
+      let w : List ℕ = take (count_in b) rest in
+      let many : length rest ≡ longest + 4 = omega (arith, size, length-drop header b) in
+      let long : length w ≡ n = omega (arith, e, many, short, length-take (count_in b) rest) in
+      let filled : take (longest - n) (drop n rest) ≡ replicate (longest - length w) 0 =
+      sym (behind-is b n) ∙ zeros-length (behind b n) zeros
+      ∙ ap (λ (m : ℕ). replicate m 0)
+      (ap length (behind-is b n) ∙ omega (arith, long, many, short, length-take (longest - n) (drop n rest), length-drop n rest)) in
+      let last : take longest rest ≡ w ++ replicate (longest - length w) 0 =
+      parted n longest rest short ∙ ap₂ (λ (m : ℕ) (z : List ℕ). take m rest ++ z) e filled in
+      let low : get_or b 4 0 ≡ length w % 256 = omega (arith, long, e, byte) in
+      let high : get_or b 5 0 ≡ length w / 256 = omega (arith, long, e, byte) in
+      let whole : take body_bytes b ≡ padded (held_in b) =
+      ap (take body_bytes) (first-six b (omega (arith, size)))
+      ∙ same-record (get_or b 0 0) (get_or b 1 0) (get_or b 4 0) (get_or b 5 0) (take longest rest) (held_in b) first second low high
+      last in
+      (size, refl, refl, omega (arith, e, short), stored-image b (held_in b) size s (omega (arith, long, short)) whole)
 
 -- ---- an image as it is written
 
-module _ (b : List ℕ) (size : length b ≡ image_bytes) (x y z w : ℕ) where
-  abbrev summed : List ℕ
-  summed = set (set (set (set b 618 x) 619 y) 620 z) 621 w
+nothing_left : (n : ℕ) (l : List ℕ) → drop (length l - n) (drop n l) ≡ []
+nothing_left n l = drop_all (length l - n) (drop n l) (omega (arith, length-drop n l))
 
-  summed-length : length summed ≡ image_bytes
-  summed-length = simp length-set size
+-- The header, the letters and the zeros are written one after the other
+pub body-written : (h l z s x : List ℕ) (o : Outline) (n m : ℕ) → length s ≡ body_bytes → length o.letters ≤ longest
+    → n ≡ header + length o.letters
+    → h ≡ 75 ∷ 79 ∷ o.start.col ∷ o.start.row ∷ length o.letters % 256 ∷ length o.letters / 256 ∷ [] → l ≡ o.letters
+    → x ≡ put_mid header (n - header) (h ++ drop header s) l → z ≡ replicate m 0 → m ≡ length (take (length x - n) (drop n x))
+    → put_mid n (length x - n) x z ≡ padded o
+unfolding padded
+body-written h l z s x o n m size short e head letters is zeros count =
+    let six : length h ≡ header = ap length head in
+    let start : List ℕ = h ++ drop header s in
+    let long : length x ≡ body_bytes =
+    ap length is
+    ∙ omega (
+      arith,
+      six,
+      size,
+      short,
+      e,
+      ap length letters,
+      length-append h (drop header s),
+      length-drop header s,
+      length-append (take header start) (l ++ drop (n - header) (drop header start)),
+      length-append l (drop (n - header) (drop header start)),
+      length-take header start,
+      length-drop (n - header) (drop header start),
+      length-drop header start,
+    ) in
+    let front : take n x ≡ h ++ l =
+    ap (take n) is
+    ∙ take-put_mid header (n - header) start l n (omega (arith, e, ap length letters)) (omega (arith, six, length-append h (drop header s)))
+    ∙ ap (λ (y : List ℕ). y ++ l) (take_at h (drop header s) header six) in
+    let many : m ≡ longest - length o.letters =
+    omega (arith, count, long, e, short, length-take (length x - n) (drop n x), length-drop n x) in
+    let last : List ℕ = replicate (longest - length o.letters) 0 in
+    let filled : z ≡ last = zeros ∙ ap (λ (i : ℕ). replicate i 0) many in
+    rw (front, filled, nothing_left n x, append-nil last, head, letters) refl
 
-  summed-front : (k : ℕ) → k < body_bytes → get_or summed k 0 ≡ get_or b k 0
-  summed-front k l =
-      get_or-set_other (set (set (set b 618 x) 619 y) 620 z) 621 k w 0 (λ q. omega arith)
-      ∙ get_or-set_other (set (set b 618 x) 619 y) 620 k z 0 (λ q. omega arith)
-      ∙ get_or-set_other (set b 618 x) 619 k y 0 (λ q. omega arith)
-      ∙ get_or-set_other b 618 k x 0 (λ q. omega arith)
-
-  summed-x : get_or summed 618 0 ≡ x
-  summed-x =
-      get_or-set_other (set (set (set b 618 x) 619 y) 620 z) 621 618 w 0 (λ q. omega arith)
-      ∙ get_or-set_other (set (set b 618 x) 619 y) 620 618 z 0 (λ q. omega arith)
-      ∙ get_or-set_other (set b 618 x) 619 618 y 0 (λ q. omega arith)
-      ∙ get_or-set_same b 618 x 0 (omega arith)
-
-  summed-y : get_or summed 619 0 ≡ y
-  summed-y =
-      get_or-set_other (set (set (set b 618 x) 619 y) 620 z) 621 619 w 0 (λ q. omega arith)
-      ∙ get_or-set_other (set (set b 618 x) 619 y) 620 619 z 0 (λ q. omega arith)
-      ∙ get_or-set_same (set b 618 x) 619 y 0 (omega (arith, length-set b 618 x))
-
-  summed-z : get_or summed 620 0 ≡ z
-  summed-z =
-      get_or-set_other (set (set (set b 618 x) 619 y) 620 z) 621 620 w 0 (λ q. omega arith)
-      ∙ get_or-set_same (set (set b 618 x) 619 y) 620 z 0 (simp length-set (omega arith))
-
-  summed-w : get_or summed 621 0 ≡ w
-  summed-w = get_or-set_same (set (set (set b 618 x) 619 y) 620 z) 621 w 0 (simp length-set (omega arith))
-
-module _ (b : List ℕ) (o : Outline) (short : length o.letters ≤ longest) (size : length b ≡ image_bytes) (same : Agrees b o) where
-  pub front-padded : take body_bytes b ≡ padded o
-  front-padded =
-      let long : length (take body_bytes b) ≡ body_bytes = omega (arith, length-take body_bytes b) in
-      ext_get_or 0 (take body_bytes b) (padded o) (long ∙ sym (padded-length o short))
-      (λ k l. get_or-take body_bytes b k 0 (omega arith) ∙ same k (omega arith))
-
-  pub written-image : (n : ℕ) → n ≡ checksum (take body_bytes b)
-      → set (set (set (set b 618 (n % 256)) 619 (n / 256 % 256)) 620 (n / 65536 % 256)) 621 (n / 16777216 % 256) ≡ image_of o
-  unfolding image_of stored little_endian
-  written-image n e =
-      ext_get_or 0 whole (image_of o) (long ∙ sym (image-length o short)) at-k
-    where
-      whole : List ℕ
-      whole = set (set (set (set b 618 (n % 256)) 619 (n / 256 % 256)) 620 (n / 65536 % 256)) 621 (n / 16777216 % 256)
-
-      long : length whole ≡ image_bytes
-      long = summed-length b size _ _ _ _
-
-      sum : n ≡ checksum (padded o)
-      sum = e ∙ ap checksum front-padded
-
-      tail : (j : ℕ) → get_or (image_of o) (body_bytes + j) 0 ≡ get_or (little_endian n) j 0
-      tail j =
-          ap (λ (i : ℕ). get_or (image_of o) (i + j) 0) (sym (padded-length o short))
-          ∙ get_or-append-add (padded o) (little_endian (checksum (padded o))) j 0
-          ∙ ap (λ (i : ℕ). get_or (little_endian i) j 0) (sym sum)
-
-      at-k : (k : ℕ) → k < length whole → get_or whole k 0 ≡ get_or (image_of o) k 0
-      at-k k l =
-          elim (dec_lt k body_bytes) [
-            | yes h ↦ summed-front b size _ _ _ _ k h ∙ same k h ∙ sym (image-byte o short k h)
-            | no h ↦
-                elim (ℕ_discrete k 618) [
-                  | yes q ↦ rw q (summed-x b size _ _ _ _ ∙ sym (tail 0))
-                  | no h₁ ↦
-                      elim (ℕ_discrete k 619) [
-                        | yes q ↦ rw q (summed-y b size _ _ _ _ ∙ sym (tail 1))
-                        | no h₂ ↦
-                            elim (ℕ_discrete k 620) [
-                              | yes q ↦ rw q (summed-z b size _ _ _ _ ∙ sym (tail 2))
-                              | no h₃ ↦
-                                  let q : k ≡ 621 = omega (arith, long) in
-                                  rw q (summed-w b size _ _ _ _ ∙ sym (tail 3))
-                            ]
-                      ]
-                ]
-          ]
+-- The record and zeros, and their checksum
+pub image-written : (o : Outline) (p s e : List ℕ) (n : ℕ) → length o.letters ≤ longest → p ≡ padded o
+    → n ≡ checksum (take body_bytes (p ++ s)) → e ≡ little_endian n
+    → put_mid body_bytes (length (p ++ s) - body_bytes) (p ++ s) e ≡ image_of o
+unfolding image_of stored
+image-written o p s e n short q sum w =
+    let front : take body_bytes (p ++ s) ≡ padded o = take_at p s body_bytes (ap length q ∙ padded-length o short) ∙ q in
+    let last : e ≡ little_endian (checksum (padded o)) = w ∙ ap little_endian (sum ∙ ap checksum front) in
+    ap₂ ◌++◌ front (ap₂ ◌++◌ last (nothing_left body_bytes (p ++ s)) ∙ append-nil (little_endian (checksum (padded o))))

@@ -1,11 +1,10 @@
 -- The image of an outline (contract 13.1): its record as in a fitting file, zeros up to 618 bytes, and their checksum, lowest byte first.
-use Rattle.std.specs.Prelude.{ℕ, ◌+◌, ◌*◌, ◌-◌, ◌/◌, ◌%◌, ◌≤◌, ◌≡◌, Bool, true, false, ◌&&◌, List, [], ◌∷◌, ◌++◌, length, get_or, take, drop, replicate, eqb, leb}
+use Rattle.std.specs.Prelude.{ℕ, ◌+◌, ◌*◌, ◌-◌, ◌/◌, ◌%◌, ◌≤◌, ◌≡◌, Bool, true, false, ◌&&◌, List, [], ◌∷◌, ◌++◌, length, get_or, take, drop, replicate, eqb, leb, Option, Some, None}
 use Rattle.chart.specs.Limits.{longest}
 use Rattle.chart.specs.declared.Point.{Point}
 use Rattle.chart.specs.Outline.{Outline, at, outline}
 use Rattle.checksum.specs.Stored.{stored}
-use Rattle.images.specs.declared.Found.{Found}
-use Rattle.images.specs.declared.Found.TheVariants.{NotImage, Outline as OfOutline}
+use Rattle.images.specs.declared.Record.{Record}
 
 -- The bytes before the letters, those before the checksum, and all of them
 abbrev pub header : ℕ
@@ -56,6 +55,7 @@ unfoldable pub is_image : List ℕ → Bool
 is_image b = leb (count_in b) longest && same_bytes b (image_of (held_in b))
 
 -- What bytes are read as
-unfoldable pub Reads : List ℕ → Found → Type 0
-Reads b NotImage = (o : Outline) → IsImage b o → ⊥
-Reads b (OfOutline s n) = (length b ≡ image_bytes) × (s ≡ start_in b) × (n ≡ count_in b) × (n ≤ longest) × IsImage b (held_in b)
+unfoldable pub Reads : List ℕ → Option Record → Type 0
+Reads b None = (o : Outline) → IsImage b o → ⊥
+Reads b (Some r) =
+    (length b ≡ image_bytes) × (r.start ≡ start_in b) × (r.count ≡ count_in b) × (r.count ≤ longest) × IsImage b (held_in b)

@@ -1,4 +1,6 @@
 -- The letters copied from W's place on, forward or backward, are the border, so the verdict on the copy is the verdict on the border.
+use Rattle.std.specs.Prelude.{Result, Ok, Err}
+use Rattle.std.proofs.Common.{Bor}
 use Prim.Native.Nat.{ℕ, ◌-◌, ◌*◌, ◌≤◌, ◌<◌}
 use native.Mathlib.Decide.{dec_lt}
 use native.Mathlib.Omega.{arith}
@@ -12,14 +14,12 @@ use borrow.Author.Tests.{ne_eqb, le-ltb}
 use Rattle.chart.specs.Limits.{longest, most_numbers}
 use Rattle.chart.specs.declared.Point.{Point}
 use Rattle.chart.specs.declared.Refusal.{Refusal}
-use Rattle.chart.specs.declared.Verdict.{Verdict}
-use Rattle.chart.specs.declared.Verdict.TheVariants.{Taken, Refused}
+use Rattle.chart.specs.declared.Taken.{Taken}
 use Rattle.chart.specs.Outline.{Outline, outline}
 use Rattle.lattice.specs.Chart.{corner_at, size}
 use Rattle.lattice.specs.Refusals.{Simple}
 use Rattle.lattice.specs.Walked.{Walked}
 use Rattle.lattice.proofs.WalkLaws.{walked, outline-eq}
-use Rattle.survey.specs.declared.Surveyed.TheVariants.{Passed, Refused as Stopped}
 use Rattle.survey_walk.specs.declared.Corners.{Corners}
 use Rattle.survey_walk.specs.Corners.{corners_of}
 use Rattle.survey.specs.Survey.{survey_of}
@@ -142,11 +142,11 @@ module _ {o : Outline} {f : Corners} {cuts : Cuts} {v : ℕ} {buffer : List ℕ}
         (west-first (clockwise_form o) (walked (clockwise_form o) (simple-form o h.simple))).below,
       )
 
-  abbrev copied : Round
-  copied = record { cuts = cuts; place = v; west = p; bottom = f.bottom; top = f.top }
+  abbrev copied : Bor (List ℕ) → Round
+  copied lent = record { letters = lent; cuts = cuts; place = v; west = p; bottom = f.bottom; top = f.top }
 
-  ready : RoundOf copied (border o)
-  ready =
+  ready : (lent : Bor (List ℕ)) → RoundOf (copied lent) (border o)
+  ready lent =
       record {
         walk = from-west o h.simple;
         place = v-lt;
@@ -156,11 +156,12 @@ module _ {o : Outline} {f : Corners} {cuts : Cuts} {v : ℕ} {buffer : List ℕ}
         places = h.cuts-of.places;
       }
 
-  pub copied-ready : RoundOf copied (outline p (take (size o) buffer))
-  copied-ready = rw border-is ready
+  pub copied-ready : (lent : Bor (List ℕ)) → RoundOf (copied lent) (outline p (take (size o) buffer))
+  copied-ready lent = rw border-is (ready lent)
 
   -- 8 and 9, or taken
-  pub copied-outcome : {before after : List ℤ} {r : Verdict} → OutcomeOfRound forward v (outline p (take (size o) buffer)) before after r
+  pub copied-outcome : {before after : List ℤ} {r : Result Taken Refusal}
+      → OutcomeOfRound forward v (outline p (take (size o) buffer)) before after r
       → OutcomeOfBorder o before after r
   unfolding border_verdict place_sent
   copied-outcome {before} {after} {r} e =
@@ -171,37 +172,38 @@ module _ {o : Outline} {f : Corners} {cuts : Cuts} {v : ℕ} {buffer : List ℕ}
 -- ---- the judgement
 
 -- The verdict on an outline and its edges
-abbrev OutcomeOf : Outline → List ℤ → List ℤ → Verdict → Type 0
+abbrev OutcomeOf : Outline → List ℤ → List ℤ → Result Taken Refusal → Type 0
 OutcomeOf o = Outcome (verdict_of o) (edges (border o))
 
 module _ (o : Outline) where
-  pub stopped-outcome : {f : Refusal} → survey_of o ≡ Stopped f → (before : List ℤ) → OutcomeOf o before before (Refused f)
+  pub stopped-outcome : {f : Refusal} → survey_of o ≡ Err f → (before : List ℤ) → OutcomeOf o before before (Err f)
   unfolding after_survey
   stopped-outcome h before = outcome-refused (edges (border o)) before (rw (verdict-chain o, h) refl)
 
-  pub passed-outcome : {c : Corners} → survey_of o ≡ Passed c → {before after : List ℤ} {r : Verdict} → OutcomeOfBorder o before after r
+  pub passed-outcome : {c : Corners} → survey_of o ≡ Ok c → {before after : List ℤ} {r : Result Taken Refusal}
+      → OutcomeOfBorder o before after r
       → OutcomeOf o before after r
   unfolding after_survey
   passed-outcome h e = rw (verdict-chain o, h) e
 
-  pub outcome-edges : {before after : List ℤ} {r : Verdict} → OutcomeOf o before after r → after ≡ edges_after o before
+  pub outcome-edges : {before after : List ℤ} {r : Result Taken Refusal} → OutcomeOf o before after r → after ≡ edges_after o before
   unfolding edges_after test_of
   outcome-edges e = e.buffer
 
   -- A list of zeros has room for the edges of every outline
-  zeros-room : (v : Verdict) → verdict_of o ≡ v → with_room (length zeros) v ≡ v
+  zeros-room : (v : Result Taken Refusal) → verdict_of o ≡ v → with_room (length zeros) v ≡ v
   unfolding with_room
-  zeros-room (Refused f) e = refl
-  zeros-room (Taken n a) e =
-      rw (le-ltb (length zeros) (2 * n) (rw (length-replicate most_numbers (pos 0)) (taken-fits o n a e)))
+  zeros-room (Err f) e = refl
+  zeros-room (Ok t) e =
+      rw (le-ltb (length zeros) (2 * t.edges) (rw (length-replicate most_numbers (pos 0)) (taken-fits o t.edges t.anchor e)))
 
-  pub judged-of : {r : Verdict} {after : List ℤ} → r ≡ verdict_of o → after ≡ edges_after o zeros
+  pub judged-of : {r : Result Taken Refusal} {after : List ℤ} → r ≡ verdict_of o → after ≡ edges_after o zeros
       → record { verdict = r; numbers = after } ≡ judged_of o
   unfolding judged_of edges_after test_of
   judged-of v e =
       λ z. record {
         verdict = v z;
-        numbers = (e ∙ ap (λ (x : Verdict). buffer_after x (edges (border o)) zeros) (zeros-room (verdict_of o) refl)) z;
+        numbers = (e ∙ ap (λ (x : Result Taken Refusal). buffer_after x (edges (border o)) zeros) (zeros-room (verdict_of o) refl)) z;
       }
 
   -- The two parts of a judgement

@@ -1,5 +1,6 @@
 -- One law for each of the refusals 8 and 9 and one for an outline taken: the definition is a list of tests, and the first that holds
 -- decides.
+use Rattle.std.specs.Prelude.{Result, Err}
 use Prim.Native.Nat.{ℕ, ◌+◌, ◌*◌, ◌≤◌, ◌<◌}
 use native.Mathlib.Numerals.{add-one}
 use native.Mathlib.Decide.{dec_le}
@@ -17,8 +18,8 @@ use Rattle.chart.specs.declared.Point.{Point}
 use Rattle.chart.specs.Outline.{Outline}
 use Rattle.chart.specs.declared.Refusal.{Refusal}
 use Rattle.chart.specs.declared.Refusal.TheVariants.{BackStep, Dent}
-use Rattle.chart.specs.declared.Verdict.{Verdict}
-use Rattle.chart.specs.declared.Verdict.TheVariants.{Taken, Refused}
+use Rattle.chart.specs.declared.Taken.{Taken}
+use Rattle.chart.specs.Taken.{taken_with}
 use Rattle.lattice.specs.Chart.{corner_at, size}
 use Rattle.lattice.specs.Refusals.{Simple}
 use Rattle.lattice.specs.Walked.{Walked}
@@ -96,13 +97,13 @@ module _ {t : Round} {o : Outline} (h : RoundOf t o) where
 -- ---- the answers
 
 -- A refusal leaves the buffer as it was
-pub outcome-refused : {v : Verdict} (es before : List ℤ) {f : Refusal} → Refused f ≡ v → Outcome v es before before (Refused f)
+pub outcome-refused : {v : Result Taken Refusal} (es before : List ℤ) {f : Refusal} → Err f ≡ v → Outcome v es before before (Err f)
 unfolding with_room buffer_after
 outcome-refused es before e = record { verdict = e; buffer = rw (sym e) refl }
 
 -- The edges of a taken outline are written if there is room for them
-outcome-taken : {v : Verdict} {es before after : List ℤ} {n : ℕ} {a : Point} → Taken n a ≡ v → length es ≡ 2 * n
-    → Written es (2 * n) before after → Outcome v es before after (Taken n a)
+outcome-taken : {v : Result Taken Refusal} {es before after : List ℤ} {n : ℕ} {a : Point} → taken_with n a ≡ v → length es ≡ 2 * n
+    → Written es (2 * n) before after → Outcome v es before after (taken_with n a)
 unfolding with_room buffer_after
 outcome-taken {v} {es} {before} {after} {n} {a} e size l =
     record {
@@ -116,23 +117,23 @@ outcome-taken {v} {es} {before} {after} {n} {a} e size l =
     }
 
 module _ (forward : Bool) (v : ℕ) (o : Outline) where
-  abbrev ruling : Verdict
+  abbrev ruling : Result Taken Refusal
   ruling = round_verdict (sent_from forward (size o) v) o
 
-  round-back-step : {k i : ℕ} → StepIs o k i → k < 4 → Refused (BackStep (k + 1) (sent_from forward (size o) v i)) ≡ ruling
+  round-back-step : {k i : ℕ} → StepIs o k i → k < 4 → Err (BackStep (k + 1) (sent_from forward (size o) v i)) ≡ ruling
   unfolding round_verdict back_step_in
   round-back-step {k} h l =
       let b : ltb (back_step_piece o) 4 ≡ true = lt-ltb (back_step_piece o) 4 (omega (arith, h.piece)) in
       rw (b, add-one k, h.at, h.piece)
 
   module _ (b : ltb (back_step_piece o) 4 ≡ false) where
-    round-dent : {k i l : ℕ} → DentIs o k i l → k < 4 → Refused (dent_as forward v o k i l) ≡ ruling
+    round-dent : {k i l : ℕ} → DentIs o k i l → k < 4 → Err (dent_as forward v o k i l) ≡ ruling
     unfolding round_verdict dent_in dent_as
     round-dent {k} h l =
         let c : ltb (dent_piece o) 4 ≡ true = lt-ltb (dent_piece o) 4 (omega (arith, h.piece)) in
         rw (b, c, add-one k, h.at, h.size, h.piece)
 
-    round-taken : dent_piece o ≡ 4 → Taken (edge_count o) o.start ≡ ruling
+    round-taken : dent_piece o ≡ 4 → taken_with (edge_count o) o.start ≡ ruling
     unfolding round_verdict
     round-taken c = rw (b, c)
 
@@ -145,7 +146,7 @@ module _ {t : Round} {o : Outline} (h : RoundOf t o) where
   -- 8
   pub step-outcome : {forward : Bool} {k i place : ℕ} → FoundAt (rounds o.letters) t.cuts.at k i
       → SentTo forward (size o) t.place i place → (before : List ℤ)
-      → OutcomeOfRound forward t.place o before before (Refused (BackStep (k + 1) place))
+      → OutcomeOfRound forward t.place o before before (Err (BackStep (k + 1) place))
   step-outcome {forward} {k} {i} {place} e p before =
       let d : place ≡ sent_from forward (size o) t.place i =
       place-sent h.walk h.place (omega (arith, e.at_le, length-rounds o.letters, short)) p in
@@ -165,11 +166,11 @@ module _ {t : Round} {o : Outline} (h : RoundOf t o) where
     -- 9
     pub dent-outcome : (forward : Bool) {k i l : ℕ} → DentRead o.letters t.cuts.at k i l → {f : Refusal}
         → f ≡ dent_as forward t.place o k i l → (before : List ℤ)
-        → OutcomeOfRound forward t.place o before before (Refused f)
+        → OutcomeOfRound forward t.place o before before (Err f)
     dent-outcome forward e q before =
-        outcome-refused (edges o) before (ap Refused q ∙ round-dent forward t.place o b (e.dent o short laid) e.piece_lt)
+        outcome-refused (edges o) before (ap Err q ∙ round-dent forward t.place o b (e.dent o short laid) e.piece_lt)
 
-    -- Taken
+    -- taken_with
     module _ {numbers : List ℤ} {m : ℕ} (e : (v : Outline) → size v ≤ longest → Laid v t.cuts.at o.letters
         → EdgesAre v zeros numbers m) where
       abbrev found : EdgesAre o zeros numbers m
@@ -191,8 +192,8 @@ module _ {t : Round} {o : Outline} (h : RoundOf t o) where
       first-numbers = ap (take (2 * m)) (found.list room) ∙ take_at (edges o) (drop (2 * m) zeros) (2 * m) edges-size
 
       pub edges-outcome : (forward : Bool) {before after : List ℤ} → Written (take (2 * m) numbers) (2 * m) before after
-          → OutcomeOfRound forward t.place o before after (Taken m o.start)
+          → OutcomeOfRound forward t.place o before after (taken_with m o.start)
       edges-outcome forward {before} {after} l =
-          outcome-taken (ap (λ (k : ℕ). Taken k o.start) (found.edges_counted room)
+          outcome-taken (ap (λ (k : ℕ). taken_with k o.start) (found.edges_counted room)
           ∙ round-taken forward t.place o b found.no_dent) edges-size
           (rw first-numbers at l)

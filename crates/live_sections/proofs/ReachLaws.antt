@@ -3,15 +3,12 @@ use Prim.Native.Nat.{ℕ, ◌+◌, ◌-◌, ◌*◌, ◌≤◌, ◌<◌}
 use native.Mathlib.Decide.{dec_lt}
 use native.Mathlib.Omega.{arith}
 use mathlib.Core.Path.{◌≡◌, sym, ap, ◌∙◌}
-use mathlib.Core.Bool.{Bool, true, false, ◌&&◌, true≢false}
-use mathlib.Core.Logic.{inl, inr}
+use mathlib.Core.Bool.{Bool, true, false, true≢false}
 use mathlib.Core.List.{List}
-use lib.ListN.{length, get_or}
-use lib.Seq.{ext_get_or}
-use lib.Dec.{leb, ltb, eqb}
-use borrow.Author.Tests.{eqb-true, leb-true, ltb-true, lt-ltb}
+use lib.Dec.{leb, ltb}
+use borrow.Author.Tests.{leb-true, ltb-true, lt-ltb}
 use Rattle.base.specs.Below.{first}
-use Rattle.base.proofs.BelowLaws.{below_suc, and_left, and_right, not-held, first-before, first-none, first-none-at}
+use Rattle.base.proofs.BelowLaws.{and_left, and_right, not-held, first-before, first-none, first-none-at}
 use Rattle.chart.specs.Limits.{side}
 use Rattle.rows.specs.parts.Rows.{rows as row_of}
 use Rattle.spans.specs.declared.Spans.{Spans}
@@ -109,29 +106,3 @@ module _ (rows : List ℕ) (l : ℕ) (h : l < layers) (begins ends : List ℕ) (
 
     pub to_none : NoneFrom begins ends c (numbers s.past l)
     to_none = rw (to_is ∙ sym top-is) (top-none begins ends c)
-
--- ---- two sections with the same intervals
-
--- The first n numbers are equal
-pub record Agree (a b : List ℕ) (n : ℕ) : Type 0 where
-  pub same : (m : ℕ) → m < n → get_or b m 0 ≡ get_or a m 0
-
-pub agree-start : (a b : List ℕ) → Agree a b 0
-agree-start a b = record { same = λ m h. absurd (omega arith) }
-
-pub agree-next : (a b : List ℕ) (k : ℕ) → Agree a b k → get_or b k 0 ≡ get_or a k 0 → Agree a b (k + 1)
-agree-next a b k t e = record { same = λ m h. elim (below_suc m k (omega arith)) [ inl d ↦ rw d e | inr g ↦ t.same m g ] }
-
--- Both lists agree in one place more, where the test says so
-pub agree-both : (a b x y : List ℕ) (k : ℕ) (t : Bool) → (t ≡ true → Agree a b k × Agree x y k)
-    → ((t && eqb (get_or a k 0) (get_or b k 0)) && eqb (get_or x k 0) (get_or y k 0)) ≡ true → Agree a b (k + 1) × Agree x y (k + 1)
-agree-both a b x y k t f e =
-    let begun = and_left (t && eqb (get_or a k 0) (get_or b k 0)) (eqb (get_or x k 0) (get_or y k 0)) e in
-    let ended = and_right (t && eqb (get_or a k 0) (get_or b k 0)) (eqb (get_or x k 0) (get_or y k 0)) e in
-    let (u, v) = f (and_left t (eqb (get_or a k 0) (get_or b k 0)) begun) in (
-      agree-next a b k u (sym (eqb-true (get_or a k 0) (get_or b k 0) (and_right t (eqb (get_or a k 0) (get_or b k 0)) begun))),
-      agree-next x y k v (sym (eqb-true (get_or x k 0) (get_or y k 0) ended)),
-    )
-
-pub agree-end : (a b : List ℕ) → length a ≡ layers → length b ≡ layers → Agree a b layers → b ≡ a
-agree-end a b p q t = ext_get_or 0 b a (q ∙ sym p) (λ i h. t.same i (omega (arith, q)))

@@ -1,23 +1,21 @@
 -- A reading against an anchor and a list of edges (contract 6.7): refusals 10, 11, 16 and 11 as of a comparison's list, then 11 of the
 -- reading and where it lies.
-use Rattle.std.specs.Prelude.{◌≡◌, ◌↔◌, true, false, List, ℤ}
+use Rattle.std.specs.Prelude.{◌≡◌, ◌↔◌, true, false, List, ℤ, Result, Ok, Err}
 use Rattle.chart.specs.declared.Point.{Point}
 use Rattle.chart.specs.declared.Fields.{Fields}
+use Rattle.chart.specs.declared.Refusal.{Refusal}
 use Rattle.chart.specs.Fields.{inside, outside, undecided}
 use Rattle.calls.specs.declared.Reading.{Reading}
-use Rattle.calls.specs.declared.Reply.{Reply}
-use Rattle.calls.specs.declared.Reply.TheVariants.{Refused}
-use Rattle.comparison.specs.declared.Checked.{Checked}
-use Rattle.comparison.specs.declared.Checked.TheVariants.{Fit, Unfit}
+use Rattle.calls.specs.Replies.{Reply}
 use Rattle.comparison.specs.Compared.{checked_of}
 use Rattle.readings.specs.Located.{exactly_inside, located_of}
 use Rattle.readings.specs.Replies.{located_reply}
 use Rattle.readings.specs.Claims.{Open}
 
 -- The refusal of the list, or the reply to the reading
-unfoldable pub unless_unfit : Checked → Reply → Reply
-unless_unfit (Unfit f) r = Refused f
-unless_unfit Fit r = r
+unfoldable pub unless_unfit : Result (Unit {0}) Refusal → Reply → Reply
+unless_unfit (Err f) r = Err f
+unless_unfit (Ok u) r = r
 
 unfoldable pub loose_reading_of : Point → List ℤ → Reading → Reply
 loose_reading_of a es r = unless_unfit (checked_of a es) (located_reply (located_of a es r))

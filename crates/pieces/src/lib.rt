@@ -55,5 +55,5 @@ const PAIRS: [Pair; 4] = [
 pub fn pair_at(k: usize) -> Pair
     ensures { PairOf (frame_of k) result }
 {
-    if k < 4 { PAIRS[k] } else { PAIRS[3] }
+    PAIRS[k.min(3)]
 }

@@ -1,42 +1,41 @@
 -- The cases of the definitions, each from the tests that lead to it.
+use Rattle.std.specs.Prelude.{Result, Ok, Err}
 use Prim.Native.Nat.{ℕ, ◌≤◌, ◌<◌}
 use native.Mathlib.Omega.{arith}
 use mathlib.Core.Path.{◌≡◌, refl, sym}
 use mathlib.Core.Bool.{Bool, true, false, cond}
 use mathlib.Core.List.{List, [], ◌∷◌}
 use lib.ListN.{length, get_or, set}
-use lib.Dec.{leb, ltb, eqb}
-use borrow.Author.Tests.{lt-ltb, le-ltb, leb-false, eq-eqb, ne_eqb}
+use lib.Dec.{leb, ltb}
+use borrow.Author.Tests.{lt-ltb, le-ltb, leb-false}
 use Rattle.base.proofs.BelowLaws.{or-false-iff}
 use Rattle.chart.specs.Limits.{side}
 use Rattle.chart.specs.Outline.{Outline}
 use Rattle.chart.specs.Fields.{verdict_fields}
 use Rattle.chart.specs.declared.Point.{Point}
 use Rattle.chart.specs.declared.Refusal.{Refusal}
-use Rattle.chart.specs.declared.Verdict.{Verdict}
-use Rattle.chart.specs.declared.Verdict.TheVariants.{Taken, Refused}
-use Rattle.chart.specs.declared.Refusal.TheVariants.{Cell, NothingAtWork, Section, Layer}
+use Rattle.chart.specs.declared.Taken.{Taken}
+use Rattle.chart.specs.declared.Refusal.TheVariants.{Section, Layer}
+use Rattle.chart.specs.declared.SectionKind.TheVariants.{Column, Row}
 use Rattle.verdict.specs.Verdict.{verdict_of}
 use Rattle.verdict.specs.Named.{CellNamed}
 use Rattle.verdict.proofs.Cells.{verdict-named}
 use Rattle.polygon.specs.Loose.{bad_cell}
-use Rattle.spans.specs.declared.Spans.{Spans}
-use Rattle.spans.specs.Spans.{no_spans, spans_of, in_spans}
+use Rattle.spans.specs.Spans.{spans_of}
 use Rattle.sections.specs.Sections.{last_layer}
 use Rattle.pile_sections.specs.Sections.{dented_column, dented_row}
 use Rattle.pile_sections.proofs.RunLaws.{column-decided, row-decided}
-use Rattle.pile_replies.specs.declared.PileReply.{PileReply}
-use Rattle.pile_replies.specs.declared.PileReply.TheVariants.{Done, Inside, Outside, Taken as WasTaken, Refused as WasRefused}
+use Rattle.pile_replies.specs.declared.PileAnswer.TheVariants.{Done, Taken as WasTaken}
 use Rattle.pile_replies.specs.Replies.{pile_fields}
-use Rattle.pile_model.specs.Calls.{Set, SetEmpty, Check}
+use Rattle.pile_model.specs.Calls.{Set, Check}
 use Rattle.pile_sections.specs.Meaning.{CheckedRuns}
 use Rattle.pile_sections.proofs.CheckLaws.{column-said, row-said, none_said}
-use Rattle.span_list.specs.SpanList.{spans_at, rows_put}
+use Rattle.span_list.specs.SpanList.{rows_put}
 use Rattle.live_sections.proofs.LayerLaws.{bytes_fit}
 use Rattle.pile_calls.specs.declared.Pile.{Pile}
 use Rattle.pile_calls.specs.declared.Piled.{Piled}
-use Rattle.pile_calls.specs.Arrays.{arrays, says, layers_in, passed_word, word, failing}
-use Rattle.pile_calls.specs.Arrays.{set_as, set_of, empty_of, check_of, query_of, answer_of}
+use Rattle.pile_calls.specs.Arrays.{arrays, says, layers_in, passed_word, failing}
+use Rattle.pile_calls.specs.Arrays.{set_as, set_of, check_of, answer_of}
 
 -- ---- a state of two numbers, after stores
 
@@ -75,48 +74,36 @@ abbrev pub Sets : Pile → ℕ → Outline → Piled → Type 0
 Sets p l o x = (x ≡ answer_of p (Set l o)) × CellNamed o (pile_fields x.reply)
 
 module _ (p : Pile) (l : ℕ) (o : Outline) where
-  judged-named : (v : Verdict) → CellNamed o (verdict_fields v) → CellNamed o (pile_fields (set_as p l o v).reply)
+  judged-named : (v : Result Taken Refusal) → CellNamed o (verdict_fields v) → CellNamed o (pile_fields (set_as p l o v).reply)
   unfolding set_as pile_fields
-  judged-named (Refused f) c = c
-  judged-named (Taken n a) c = c
+  judged-named (Err f) c = c
+  judged-named (Ok t) c = c
 
   sets-by : (x : Piled) → x ≡ answer_of p (Set l o) → Sets p l o x
   unfolding answer_of set_of pile_fields
   sets-by x e = (e, rw e (go (ltb last_layer l)))
     where
-      go : (b : Bool) → CellNamed o (pile_fields (cond b (says (WasRefused Layer) p) (set_as p l o (verdict_of o))).reply)
+      go : (b : Bool) → CellNamed o (pile_fields (cond b (says (Err Layer) p) (set_as p l o (verdict_of o))).reply)
       go true = record { anchor = λ e. absurd (omega arith); missing = λ e. absurd (omega arith) }
       go false = judged-named (verdict_of o) (verdict-named o)
 
-  pub set-high : last_layer < l → Sets p l o (says (WasRefused Layer) p)
+  pub set-high : last_layer < l → Sets p l o (says (Err Layer) p)
   unfolding answer_of set_of
   set-high h = sets-by _ (rw (lt-ltb last_layer l h))
 
-  module _ (h : l ≤ last_layer) {r : Verdict} (e : r ≡ verdict_of o) where
-    set-as : (v : Verdict) → r ≡ v → set_as p l o v ≡ answer_of p (Set l o)
+  module _ (h : l ≤ last_layer) {r : Result Taken Refusal} (e : r ≡ verdict_of o) where
+    set-as : (v : Result Taken Refusal) → r ≡ v → set_as p l o v ≡ answer_of p (Set l o)
     unfolding answer_of set_of
     set-as v g = rw (le-ltb last_layer l h, sym e, g)
 
-    pub set-refused : (f : Refusal) → r ≡ Refused f → Sets p l o (says (WasRefused f) p)
+    pub set-refused : (f : Refusal) → r ≡ Err f → Sets p l o (says (Err f) p)
     unfolding set_as
-    set-refused f g = sets-by _ (set-as (Refused f) g)
+    set-refused f g = sets-by _ (set-as (Err f) g)
 
-    pub set-taken : (n : ℕ) (a : Point) → r ≡ Taken n a → (rows : List ℕ) → rows ≡ rows_put p.rows l (spans_of o)
-        → (state : List ℕ) → state ≡ 0 ∷ 0 ∷ [] → Sets p l o (says (WasTaken n a) (arrays rows state))
+    pub set-taken : (t : Taken) → r ≡ Ok t → (rows : List ℕ) → rows ≡ rows_put p.rows l (spans_of o)
+        → (state : List ℕ) → state ≡ 0 ∷ 0 ∷ [] → Sets p l o (says (Ok (WasTaken t)) (arrays rows state))
     unfolding set_as
-    set-taken n a g rows k state z = sets-by _ (rw (k, z) (set-as (Taken n a) g))
-
--- ---- set empty
-
-module _ (p : Pile) (l : ℕ) where
-  pub empty-high : last_layer < l → says (WasRefused Layer) p ≡ answer_of p (SetEmpty l)
-  unfolding answer_of empty_of
-  empty-high h = rw (lt-ltb last_layer l h)
-
-  pub empty-put : l ≤ last_layer → (rows : List ℕ) → rows ≡ rows_put p.rows l no_spans → (state : List ℕ) → state ≡ 0 ∷ 0 ∷ []
-      → says Done (arrays rows state) ≡ answer_of p (SetEmpty l)
-  unfolding answer_of empty_of
-  empty-put h rows k state z = rw (le-ltb last_layer l h, k, z)
+    set-taken t g rows k state z = sets-by _ (rw (k, z) (set-as (Ok t) g))
 
 -- ---- check
 
@@ -125,7 +112,7 @@ abbrev pub Checks : Pile → Piled → Type 0
 Checks p x = (x ≡ answer_of p Check) × CheckedRuns (layers_in p) x.reply
 
 module _ (p : Pile) (c : ℕ) (ec : c ≡ dented_column (layers_in p)) where
-  pub column-checks : c < side → (q : Pile) → q ≡ failing p → Checks p (says (WasRefused (Section 0 c)) q)
+  pub column-checks : c < side → (q : Pile) → q ≡ failing p → Checks p (says (Err (Section Column c)) q)
   unfolding answer_of check_of
   column-checks h q k =
       let found : dented_column (layers_in p) < side = omega (arith, ec) in
@@ -138,7 +125,7 @@ module _ (p : Pile) (c : ℕ) (ec : c ≡ dented_column (layers_in p)) where
     none-column : side ≤ dented_column (layers_in p)
     none-column = omega (arith, ec)
 
-    pub row-checks : r < side → (q : Pile) → q ≡ failing p → Checks p (says (WasRefused (Section 1 r)) q)
+    pub row-checks : r < side → (q : Pile) → q ≡ failing p → Checks p (says (Err (Section Row r)) q)
     unfolding answer_of check_of
     row-checks h q k =
         let found : dented_row (layers_in p) < side = omega (arith, er) in
@@ -148,7 +135,7 @@ module _ (p : Pile) (c : ℕ) (ec : c ≡ dented_column (layers_in p)) where
               (λ k i j. row-decided (layers_in p) k (bytes_fit p.rows bytes k i)) found,
         )
 
-    pub passing-checks : side ≤ r → (state : List ℕ) → state ≡ passed_word ∷ 0 ∷ [] → Checks p (says Done (arrays p.rows state))
+    pub passing-checks : side ≤ r → (state : List ℕ) → state ≡ passed_word ∷ 0 ∷ [] → Checks p (says (Ok Done) (arrays p.rows state))
     unfolding answer_of check_of
     passing-checks h state z =
         let none : side ≤ dented_row (layers_in p) = omega (arith, er) in
@@ -158,38 +145,9 @@ module _ (p : Pile) (c : ℕ) (ec : c ≡ dented_column (layers_in p)) where
               (λ k i j. row-decided (layers_in p) k (bytes_fit p.rows bytes k i)) none,
         )
 
-module _ (p : Pile) where
-  pub fail-passed : word p ≡ passed_word → (state : List ℕ) → state ≡ 0 ∷ 0 ∷ [] → arrays p.rows state ≡ failing p
-  unfolding failing
-  fail-passed e state z = rw (z, eq-eqb (word p) passed_word e)
-
-  pub fail-unpassed : (word p ≡ passed_word → ⊥) → p ≡ failing p
-  unfolding failing
-  fail-unpassed e = rw (ne_eqb (word p) passed_word e)
-
 -- ---- query
 
 -- The row of a cell on the chart
-pub good-row : (x : Point) → bad_cell x ≡ false → x.row < side
+pub good_row : (x : Point) → bad_cell x ≡ false → x.row < side
 unfolding bad_cell
-good-row x e = leb-false side x.row ((or-false-iff (leb side x.col) (leb side x.row)).0 e).1
-
-module _ (p : Pile) (l : ℕ) (x : Point) where
-  pub query-high : last_layer < l → WasRefused Layer ≡ query_of p l x
-  unfolding query_of
-  query-high h = rw (lt-ltb last_layer l h)
-
-  module _ (h : l ≤ last_layer) where
-    pub query-unpassed : (word p ≡ passed_word → ⊥) → WasRefused NothingAtWork ≡ query_of p l x
-    unfolding query_of
-    query-unpassed e = rw (le-ltb last_layer l h, ne_eqb (word p) passed_word e)
-
-    module _ (e : word p ≡ passed_word) where
-      pub query-bad : bad_cell x ≡ true → WasRefused Cell ≡ query_of p l x
-      unfolding query_of
-      query-bad b = rw (le-ltb last_layer l h, eq-eqb (word p) passed_word e, b)
-
-      pub query-in : bad_cell x ≡ false → (t : Bool) → t ≡ in_spans (spans_at p.rows l) x.col x.row
-          → cond t Inside Outside ≡ query_of p l x
-      unfolding query_of
-      query-in b t i = rw (le-ltb last_layer l h, eq-eqb (word p) passed_word e, b, i)
+good_row x e = leb-false side x.row ((or-false-iff (leb side x.col) (leb side x.row)).0 e).1

@@ -2,9 +2,11 @@
 //
 // A query may interrupt any other call. So the word that says that the pile has passed goes before a byte of the rows is written, and comes
 // after every section was looked at: at each moment a query gets the reply from before the call, the one from after it, or 12.
+//
+// The two arrays stay parameters of their own: the C interface names them one by one, and some calls take the rows only to read.
 #![tactic(auto)]
 
-ghost use Rattle.std.specs.Prelude.{◌≡◌, true, List, [], ◌∷◌, ℕ, ◌≤◌, ◌<◌, length, get_or};
+ghost use Rattle.std.specs.Prelude.{◌≡◌, true, List, [], ◌∷◌, ℕ, ◌≤◌, ◌<◌, get_or};
 ghost use Rattle.chart.specs.Limits.{side};
 ghost use Rattle.chart.specs.Outline.{outline};
 ghost use Rattle.verdict.specs.Named.{CellNamed};
@@ -15,21 +17,19 @@ ghost use Rattle.pile_sections.specs.Sections.{dented_column, dented_row};
 ghost use Rattle.pile_sections.specs.Meaning.{CheckedRuns};
 ghost use Rattle.pile_replies.specs.Replies.{pile_fields};
 ghost use Rattle.pile_model.specs.Calls.{Set, SetEmpty, Check, Query};
-ghost use Rattle.live_sections.specs.Layers.{layer_bytes, layers_of};
+ghost use Rattle.live_sections.specs.Layers.{layers_of};
 ghost use Rattle.live_sections.specs.parts.Reach.{reach_of};
 ghost use Rattle.pile_calls.specs.Arrays.{arrays, says, passed_word, failing, query_of, answer_of, fresh_pile};
 ghost use Rattle.pile_calls.specs.Steps.{stepped, sections, clear_at, dent_at, tested_at, ending, step_of, steps_of};
 
-use chart::{Point, Refusal, SIDE, Verdict};
+use chart::{Point, Refusal, SIDE, SectionKind};
 use judge::verdict_of;
+pub use live_sections::ROW_BYTES;
 use live_sections::{clear_column, clear_row, dented_column, dented_row, reach};
-use pile_replies::PileReply;
+use pile_replies::PileAnswer;
 use polygon::bad_cell;
 use sections::{LAST_LAYER, LAYERS, Section};
-use span_list::{WIDTH, put_none, put_outline, within};
-
-// Sixteen layers, side by side.
-pub const ROW_BYTES: usize = LAYERS * WIDTH;
+use span_list::{put_none, put_outline, within};
 
 // Whether the pile has passed, and where a check in steps stands.
 pub const STATE_NUMBERS: usize = 2;
@@ -54,29 +54,21 @@ pub struct Pile {
 // A reply, and the next pile.
 #[derive(Clone, Copy)]
 pub struct Piled {
-    pub reply: PileReply,
+    pub reply: Result<PileAnswer, Refusal>,
     pub pile: Pile,
 }
 
-// What a step of a check replies: more to come, or what the whole check replies.
-#[derive(Clone, Copy)]
-pub enum Progress {
-    More,
-    Replied(PileReply),
-}
-
-// That, and the next pile.
+// The next pile, and what a step of a check replies: what the whole check does, or none while there is more to come.
 #[derive(Clone, Copy)]
 pub struct Stepped {
-    pub progress: Progress,
+    pub progress: Option<Result<PileAnswer, Refusal>>,
     pub pile: Pile,
 }
 
 // ---- the state: the word goes first, and comes last
 
-// The pile has not passed, and no check is under way.
-fn unpass(state: &mut [u16])
-    requires { length state.old ≡ 2 }
+// The pile has not passed, and no check is under way. This and the next function differ in the order of their stores.
+fn unpass(state: &mut [u16; STATE_NUMBERS])
     ensures { (state.new ≡ 0 ∷ 0 ∷ []) × (get_or state.new 0 0 ≡ 0) }
 {
     state[WORD] = 0;
@@ -84,33 +76,32 @@ fn unpass(state: &mut [u16])
 }
 
 // The pile has passed: the word is the last store.
-fn put_pass(state: &mut [u16])
-    requires { length state.old ≡ 2 }
+fn put_pass(state: &mut [u16; STATE_NUMBERS])
     ensures { state.new ≡ passed_word ∷ 0 ∷ [] }
 {
     state[POSITION] = 0;
     state[WORD] = PASSED;
 }
 
-// Only where no section is dented.
-fn pass(state: &mut [u16], rows: &[u8])
-    requires { (length state.old ≡ 2) × (side ≤ dented_column (layers_of rows.now)) × (side ≤ dented_row (layers_of rows.now)) }
+// Only where no section is dented. This and the next function differ in what they require.
+fn pass(state: &mut [u16; STATE_NUMBERS], rows: &[u8; ROW_BYTES])
+    requires { (side ≤ dented_column (layers_of rows.now)) × (side ≤ dented_row (layers_of rows.now)) }
     ensures { state.new ≡ passed_word ∷ 0 ∷ [] }
 {
     put_pass(state);
 }
 
 // In steps, only where the last section was tested and is not dented.
-fn pass_last(state: &mut [u16], rows: &[u8], k: u16)
-    requires { (length state.old ≡ 2) × (k ≡ 509) × (clear_at (layers_of rows.now) k ≡ true) }
+fn pass_last(state: &mut [u16; STATE_NUMBERS], rows: &[u8; ROW_BYTES], k: u16)
+    requires { (k ≡ 509) × (clear_at (layers_of rows.now) k ≡ true) }
     ensures { state.new ≡ passed_word ∷ 0 ∷ [] }
 {
     put_pass(state);
 }
 
 // A check has failed.
-fn fail(state: &mut [u16])
-    requires { length state.old ≡ 2 }
+#[tactic(auto, unfolding(crate::specs::Arrays::failing))]
+fn fail(state: &mut [u16; STATE_NUMBERS])
     ensures { (rows : List ℕ) → arrays rows state.new ≡ failing (arrays rows state.old) }
 {
     if state[WORD] == PASSED {
@@ -119,16 +110,15 @@ fn fail(state: &mut [u16])
 }
 
 // A check in steps goes on at a section.
-fn go_on(state: &mut [u16], position: u16)
-    requires { length state.old ≡ 2 }
+fn go_on(state: &mut [u16; STATE_NUMBERS], position: u16)
     ensures { state.new ≡ get_or state.old 0 0 ∷ position ∷ [] }
 {
     state[POSITION] = position;
 }
 
 // A dented section ends a check in steps.
-fn end(state: &mut [u16])
-    requires { length state.old ≡ 2 }
+#[tactic(auto, unfolding(crate::specs::Steps::ending))]
+fn end(state: &mut [u16; STATE_NUMBERS])
     ensures { (rows : List ℕ) → arrays rows state.new ≡ ending (arrays rows state.old) }
 {
     let word = state[WORD];
@@ -141,18 +131,24 @@ fn end(state: &mut [u16])
 
 // ---- the rows: written only after the word was taken away
 
-fn write_outline(rows: &mut [u8], state: &[u16], layer: usize, start: Point, letters: &[u8])
-    requires { (layer < layers) × (length rows.old ≡ layer_bytes) × (get_or state.now 0 0 ≡ 0) }
+fn write_outline(
+    rows: &mut [u8; ROW_BYTES],
+    state: &[u16; STATE_NUMBERS],
+    layer: usize,
+    start: Point,
+    letters: &[u8],
+)
+    requires { (layer < layers) × (get_or state.now 0 0 ≡ 0) }
     ensures { rows.new ≡ rows_put rows.old layer (spans_of (outline start letters.now)) }
 {
-    put_outline(rows, layer, start, letters);
+    put_outline(&mut rows[..], layer, start, letters);
 }
 
-fn write_none(rows: &mut [u8], state: &[u16], layer: usize)
-    requires { (layer < layers) × (length rows.old ≡ layer_bytes) × (get_or state.now 0 0 ≡ 0) }
+fn write_none(rows: &mut [u8; ROW_BYTES], state: &[u16; STATE_NUMBERS], layer: usize)
+    requires { (layer < layers) × (get_or state.now 0 0 ≡ 0) }
     ensures { rows.new ≡ rows_put rows.old layer no_spans }
 {
-    put_none(rows, layer);
+    put_none(&mut rows[..], layer);
 }
 
 // ---- the calls
@@ -161,7 +157,7 @@ fn write_none(rows: &mut [u8], state: &[u16], layer: usize)
 pub fn clear_all(rows: &mut [u8; ROW_BYTES], state: &mut [u16; STATE_NUMBERS])
     ensures { arrays rows.new state.new ≡ fresh_pile }
 {
-    unpass(&mut state[..]);
+    unpass(state);
     *rows = [0; ROW_BYTES];
 }
 
@@ -172,72 +168,69 @@ pub fn set(
     layer: u8,
     start: Point,
     letters: &[u8],
-) -> PileReply
+) -> Result<PileAnswer, Refusal>
     ensures answer { says result (arrays rows.new state.new)
         ≡ answer_of (arrays rows.old state.old) (Set layer (outline start letters.now)) }
     ensures cell { CellNamed (outline start letters.now) (pile_fields result) }
 {
     if LAST_LAYER < layer {
-        return PileReply::Refused(Refusal::Layer);
+        return Err(Refusal::Layer);
     }
-    let verdict = verdict_of(start, letters);
-    match verdict {
-        Verdict::Refused(why) => PileReply::Refused(why),
-        Verdict::Taken { edges, anchor } => {
-            unpass(&mut state[..]);
-            write_outline(&mut rows[..], &state[..], layer as usize, start, letters);
-            PileReply::Taken { edges, anchor }
-        }
-    }
+    let taken = verdict_of(start, letters)?;
+    unpass(state);
+    write_outline(rows, state, layer as usize, start, letters);
+    Ok(PileAnswer::Taken(taken))
 }
 
 // Sets a layer to empty: 22, or done.
+#[tactic(auto, unfolding(crate::specs::Arrays::answer_of, crate::specs::Arrays::empty_of))]
 pub fn set_empty(
     rows: &mut [u8; ROW_BYTES],
     state: &mut [u16; STATE_NUMBERS],
     layer: u8,
-) -> PileReply
+) -> Result<PileAnswer, Refusal>
     ensures { says result (arrays rows.new state.new)
         ≡ answer_of (arrays rows.old state.old) (SetEmpty layer) }
 {
     if LAST_LAYER < layer {
-        return PileReply::Refused(Refusal::Layer);
+        return Err(Refusal::Layer);
     }
-    unpass(&mut state[..]);
-    write_none(&mut rows[..], &state[..], layer as usize);
-    PileReply::Done
-}
-
-// The first column whose section is dented, or 255. Of a slice it is known that its numbers are bytes, of an array reference not.
-fn columns(rows: &[u8]) -> u16
-    requires { length rows.now ≡ layer_bytes }
-    ensures { (result ≡ dented_column (layers_of rows.now)) × ((i : ℕ) → get_or rows.now i 0 ≤ side) }
-{
-    dented_column(rows)
+    unpass(state);
+    write_none(rows, state, layer as usize);
+    Ok(PileAnswer::Done)
 }
 
 // Checks every section: the columns, then the rows.
-pub fn check(rows: &[u8; ROW_BYTES], state: &mut [u16; STATE_NUMBERS]) -> PileReply
+pub fn check(
+    rows: &[u8; ROW_BYTES],
+    state: &mut [u16; STATE_NUMBERS],
+) -> Result<PileAnswer, Refusal>
     ensures answer { says result (arrays rows.now state.new)
         ≡ answer_of (arrays rows.now state.old) Check }
     ensures meaning { CheckedRuns (layers_of rows.now) result }
 {
-    let all = &rows[..];
-    let col = columns(all);
+    let col = dented_column(rows);
     if col < SIDE {
-        fail(&mut state[..]);
-        return PileReply::Refused(Refusal::Section { kind: 0, at: col });
+        fail(state);
+        return Err(Refusal::Section {
+            kind: SectionKind::Column,
+            at: col,
+        });
     }
-    let row = dented_row(all);
+    let row = dented_row(rows);
     if row < SIDE {
-        fail(&mut state[..]);
-        return PileReply::Refused(Refusal::Section { kind: 1, at: row });
+        fail(state);
+        return Err(Refusal::Section {
+            kind: SectionKind::Row,
+            at: row,
+        });
     }
-    pass(&mut state[..], all);
-    PileReply::Done
+    pass(state, rows);
+    Ok(PileAnswer::Done)
 }
 
 // The section that a step tests: the one at its position, or the first.
+#[tactic(auto, unfolding(crate::specs::Steps::tested_at))]
 fn tested_at(position: u16) -> u16
     ensures { (result ≡ tested_at position) × (result < sections) }
 {
@@ -245,8 +238,7 @@ fn tested_at(position: u16) -> u16
 }
 
 // The rows of each layer that have a cell. They serve every column from `k` on, and where no column is left they are not looked for.
-fn reach_from(rows: &[u8], k: u16) -> Section
-    requires { length rows.now ≡ layer_bytes }
+fn reach_from(rows: &[u8; ROW_BYTES], k: u16) -> Section
     ensures { k < side → result ≡ reach_of (layers_of rows.now) }
 {
     if k < SIDE {
@@ -260,8 +252,9 @@ fn reach_from(rows: &[u8], k: u16) -> Section
 }
 
 // Whether a section is convex, the columns before the rows.
-fn clear_at(rows: &[u8], reach: Section, k: u16) -> bool
-    requires { (k < sections) × (length rows.now ≡ layer_bytes) × (k < side → reach ≡ reach_of (layers_of rows.now)) }
+#[tactic(auto, unfolding(crate::specs::Steps::clear_at))]
+fn clear_at(rows: &[u8; ROW_BYTES], reach: Section, k: u16) -> bool
+    requires { (k < sections) × (k < side → reach ≡ reach_of (layers_of rows.now)) }
     ensures { result ≡ clear_at (layers_of rows.now) k }
 {
     if k < SIDE {
@@ -272,87 +265,94 @@ fn clear_at(rows: &[u8], reach: Section, k: u16) -> bool
 }
 
 // The reply if it is dented.
-fn dent_at(k: u16) -> PileReply
+#[tactic(auto, unfolding(crate::specs::Steps::dent_at))]
+fn dent_at(k: u16) -> Result<PileAnswer, Refusal>
     ensures { result ≡ dent_at k }
 {
     if k < SIDE {
-        PileReply::Refused(Refusal::Section { kind: 0, at: k })
+        Err(Refusal::Section {
+            kind: SectionKind::Column,
+            at: k,
+        })
     } else {
-        PileReply::Refused(Refusal::Section {
-            kind: 1,
+        Err(Refusal::Section {
+            kind: SectionKind::Row,
             at: k - SIDE,
         })
     }
 }
 
 // One section of a check in steps.
-fn check_step(rows: &[u8; ROW_BYTES], state: &mut [u16; STATE_NUMBERS], reach: Section) -> Progress
+fn check_step(
+    rows: &[u8; ROW_BYTES],
+    state: &mut [u16; STATE_NUMBERS],
+    reach: Section,
+) -> Option<Result<PileAnswer, Refusal>>
     requires { tested_at (get_or state.old 1 0) < side → reach ≡ reach_of (layers_of rows.now) }
     ensures { stepped result (arrays rows.now state.new)
         ≡ step_of (arrays rows.now state.old) }
 {
     let k = tested_at(state[POSITION]);
-    let all = &rows[..];
-    if !clear_at(all, reach, k) {
-        end(&mut state[..]);
-        return Progress::Replied(dent_at(k));
+    if !clear_at(rows, reach, k) {
+        end(state);
+        return Some(dent_at(k));
     }
     if k < SECTIONS - 1 {
-        go_on(&mut state[..], k + 1);
-        return Progress::More;
+        go_on(state, k + 1);
+        return None;
     }
-    pass_last(&mut state[..], all, k);
-    Progress::Replied(PileReply::Done)
+    pass_last(state, rows, k);
+    Some(Ok(PileAnswer::Done))
 }
 
 // Sections of a check in steps until it replies, at most `count`. With none, nothing is done and there is more to come.
-pub fn check_steps(rows: &[u8; ROW_BYTES], state: &mut [u16; STATE_NUMBERS], count: u16) -> Progress
+pub fn check_steps(
+    rows: &[u8; ROW_BYTES],
+    state: &mut [u16; STATE_NUMBERS],
+    count: u16,
+) -> Option<Result<PileAnswer, Refusal>>
     ensures { stepped result (arrays rows.now state.new)
         ≡ steps_of count (arrays rows.now state.old) }
 {
-    let reach = reach_from(&rows[..], tested_at(state[POSITION]));
-    let mut left = count;
-    while left > 0 {
-        let progress = check_step(rows, state, reach);
-        match progress {
-            Progress::More => {}
-            Progress::Replied(r) => {
-                return Progress::Replied(r);
-            }
+    let reach = reach_from(rows, tested_at(state[POSITION]));
+    for _made in 0..count {
+        if let Some(reply) = check_step(rows, state, reach) {
+            return Some(reply);
         }
-        left -= 1;
     }
-    Progress::More
+    None
 }
 
 // 22, 12, 11, or whether the layer has the cell.
+#[tactic(auto, using(crate::proofs::Cases::good_row), unfolding(crate::specs::Arrays::query_of))]
 pub fn query<'a>(
     rows: &'a [u8; ROW_BYTES],
     state: &'a [u16; STATE_NUMBERS],
     layer: u8,
     cell: Point,
-) -> PileReply
+) -> Result<PileAnswer, Refusal>
     ensures { result ≡ query_of (arrays rows.now state.now) layer cell }
 {
     if LAST_LAYER < layer {
-        return PileReply::Refused(Refusal::Layer);
+        return Err(Refusal::Layer);
     }
     if state[WORD] != PASSED {
-        return PileReply::Refused(Refusal::NothingAtWork);
+        return Err(Refusal::NothingAtWork);
     }
     if bad_cell(cell) {
-        return PileReply::Refused(Refusal::Cell);
+        return Err(Refusal::Cell);
     }
     if within(&rows[..], layer as usize, cell) {
-        PileReply::Inside
+        Ok(PileAnswer::Inside)
     } else {
-        PileReply::Outside
+        Ok(PileAnswer::Outside)
     }
 }
 
 // ---- by value
 
 // Sixteen empty layers, unchecked. All zeros is a fresh pile.
+#[tactic(auto, unfolding(crate::specs::Arrays::fresh_pile))]
 pub fn fresh() -> Pile
     ensures { result ≡ fresh_pile }
 {
@@ -404,7 +404,7 @@ impl Pile {
         }
     }
 
-    pub fn query(self, layer: u8, cell: Point) -> PileReply
+    pub fn query(self, layer: u8, cell: Point) -> Result<PileAnswer, Refusal>
         ensures { result ≡ query_of self layer cell }
     {
         query(&self.rows, &self.state, layer, cell)

@@ -1,5 +1,6 @@
 -- What rows are: the letters round the rows of a taken outline are its border, which is taken with the same rows, so testing these
 -- letters decides.
+use Rattle.std.specs.Prelude.{Result, None, Some, Ok, Err}
 use Prim.Native.Nat.{ℕ, ◌-◌, ◌≤◌, ◌<◌}
 use native.Mathlib.Decide.{dec_lt}
 use native.Mathlib.Omega.{arith}
@@ -14,9 +15,10 @@ use Rattle.base.specs.Below.{first}
 use Rattle.base.proofs.BelowLaws.{first-le, first_found, first-before, first-none}
 use Rattle.chart.specs.Limits.{side, longest}
 use Rattle.chart.specs.declared.Point.{Point}
-use Rattle.chart.specs.declared.Verdict.{Verdict}
-use Rattle.chart.specs.declared.Verdict.TheVariants.{Taken, Refused}
+use Rattle.chart.specs.declared.Taken.{Taken}
+use Rattle.chart.specs.Taken.{taken_with}
 use Rattle.chart.specs.declared.Refusal.{Refusal}
+use Rattle.chart.specs.declared.Refusal.TheVariants.{Damaged}
 use Rattle.chart.specs.Outline.{Outline, outline, at}
 use Rattle.chart.specs.Fields.{verdict_fields}
 use Rattle.lattice.specs.Chart.{size}
@@ -40,7 +42,6 @@ use Rattle.spans.specs.declared.Spans.{Spans}
 use Rattle.spans.specs.Spans.{no_spans, spans_of, in_spans}
 use Rattle.spans.proofs.Exact.{spans-exact, same-border}
 use Rattle.live_sections.specs.parts.Reach.{has_cell, bottom_of, top_of}
-use Rattle.pile_images.specs.declared.Held.TheVariants.{Empty, Outline as OfOutline, Damaged}
 use Rattle.pile_images.specs.declared.Ring.{Ring}
 use Rattle.pile_images.specs.Left.{SetTo}
 use Rattle.pile_images.specs.parts.Found.{Ringed, Holds}
@@ -76,7 +77,7 @@ module _ (first past lo hi : List ℕ) (firsts : (k : ℕ) → rows lo k ≡ row
 -- ---- a taken outline and its border
 
 module _ {o : Outline} {s : Spans} (h : SetTo o s) where
-  abbrev number : Verdict → ℕ
+  abbrev number : Result Taken Refusal → ℕ
   number v = (verdict_fields v).number
 
   facts : TakenFacts o h.edges_counted h.anchor
@@ -135,14 +136,14 @@ module _ {o : Outline} {s : Spans} (h : SetTo o s) where
 
 -- ---- whether a set of an outline leaves these rows
 
-module _ (o : Outline) (s : Spans) (v : Verdict) (e : v ≡ verdict_of o) where
-  pub not_set : (f : Refusal) → v ≡ Refused f → (false ≡ true) ↔ SetTo o s
+module _ (o : Outline) (s : Spans) (v : Result Taken Refusal) (e : v ≡ verdict_of o) where
+  pub not_set : (f : Refusal) → v ≡ Err f → (false ≡ true) ↔ SetTo o s
   not_set f g = (
     λ k. absurd (true≢false (sym k)),
     λ h. let t = h.taken in let z : ◌≡◌ {A = ℕ} 0 1 = cc in absurd (omega (arith, z)),
   )
 
-  pub set-iff : (n : ℕ) (a : Point) → v ≡ Taken n a → (x : Spans) → x ≡ spans_of o → (b : Bool) → (b ≡ true) ↔ (s ≡ x)
+  pub set-iff : (n : ℕ) (a : Point) → v ≡ taken_with n a → (x : Spans) → x ≡ spans_of o → (b : Bool) → (b ≡ true) ↔ (s ≡ x)
       → (b ≡ true) ↔ SetTo o s
   set-iff n a g x own b same = (
     λ k. record { edges_counted = n; anchor = a; taken = sym e ∙ g; rows = same.0 k ∙ own },
@@ -165,13 +166,13 @@ pub set-not-none : {o : Outline} {s : Spans} → SetTo o s → s ≡ no_spans �
 set-not-none h e = omega (arith, set-some h, ap bottom_of e, none-bottom)
 
 module _ (s : Spans) (l : List ℕ) where
-  pub found-empty : s ≡ no_spans → Holds s l Empty
+  pub found-empty : s ≡ no_spans → Holds s l (Ok None)
   unfolding Holds
   found-empty e = e
 
-  pub found-bare : bottom_of s ≡ side → (s ≡ no_spans → ⊥) → Holds s l Damaged
+  pub found-bare : bottom_of s ≡ side → (s ≡ no_spans → ⊥) → Holds s l (Err Damaged)
   unfolding Holds
-  found-bare none e = (e, λ o h. omega (arith, none, set-some h))
+  found-bare none e = (refl, e, λ o h. omega (arith, none, set-some h))
 
 -- ---- rows with one
 
@@ -206,16 +207,16 @@ module _ (s : Spans) (some : bottom_of s < side) where
   module _ (l : List ℕ) (b t : ℕ) (r : Ring) (low : b ≡ bottom_of s) (high : t ≡ top_of s)
       (g : Ringed (rows s.first) (rows s.past) b t l r)
     where
-      pub found-long : longest < r.count → Holds s l Damaged
+      pub found-long : longest < r.count → Holds s l (Err Damaged)
       unfolding Holds
-      found-long k = (not_none, λ o h. omega (arith, k, ring-short h l b t r low high g))
+      found-long k = (refl, not_none, λ o h. omega (arith, k, ring-short h l b t r low high g))
 
       pub found-outline : r.count ≤ longest → SetTo (outline r.start (take r.count l)) s
-          → Holds s l (OfOutline r.start r.count)
+          → Holds s l (Ok (Some r))
       unfolding Holds
       found-outline k h = (omega (arith, g.sized), g.sized, h, λ o i. ring-is i l b t r low high g)
 
-      pub found-other : (SetTo (outline r.start (take r.count l)) s → ⊥) → Holds s l Damaged
+      pub found-other : (SetTo (outline r.start (take r.count l)) s → ⊥) → Holds s l (Err Damaged)
       unfolding Holds
       found-other k =
-          (not_none, λ o h. k (subst (λ (v : Outline). SetTo v s) (ring-is h l b t r low high g) (set-border h)))
+          (refl, not_none, λ o h. k (subst (λ (v : Outline). SetTo v s) (ring-is h l b t r low high g) (set-border h)))

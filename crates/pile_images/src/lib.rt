@@ -16,145 +16,110 @@ ghost use Rattle.pile_images.specs.Saved.{Written, SavesAt};
 ghost use Rattle.pile_images.specs.parts.Found.{Ringed, Holds};
 
 use border_of_rows::{count, round};
-use chart::{CORNERS, LONGEST, Point, Refusal, SIDE, Verdict};
+use chart::{CORNERS, LONGEST, Point, Refusal, SIDE};
+use equality::same_bytes;
 use hull_rows::lowest;
-use images::{Found, HEADER, IMAGE};
+use images::{HEADER, IMAGE};
 use judge::verdict_of;
-use live_sections::{bottom, part, top};
+use live_sections::Layer;
 use pile_calls::{ROW_BYTES, STATE_NUMBERS, set, set_empty};
-use pile_replies::PileReply;
+use pile_replies::PileAnswer;
 use sections::LAST_LAYER;
-use span_list::WIDTH;
-use spans::{ROWS, Spans, no_spans, spans_of};
+use spans::{Spans, no_spans, spans_of};
 
 // One past the last row.
 const END: u8 = SIDE as u8;
 
-// What rows are: those of an empty layer, those of an outline whose border has these letters, or what no set leaves.
-#[derive(Clone, Copy)]
-enum Held {
-    Empty,
-    Outline { start: Point, count: usize },
-    Damaged,
-}
-
-// The letters round rows, of which so many begin at a corner.
+// The border of rows: where it starts, and how many letters it has.
 #[derive(Clone, Copy)]
 struct Ring {
     start: Point,
     count: usize,
 }
 
-// 255 columns as 16-bit numbers.
+// 255 columns as 16-bit numbers. The library has no conversion between lists of two lengths.
 fn widened(part: &[u8]) -> [u16; CORNERS]
     requires { length part.now ≡ side }
     ensures { (k : ℕ) → rows result k ≡ rows part.now k }
 {
     let mut wide = [0u16; CORNERS];
-    let mut k = 0;
-    while k < ROWS {
-        wide[k] = part[k] as u16;
-        k += 1;
+    for (k, column) in part.iter().enumerate() {
+        wide[k] = u16::from(*column);
     }
     wide
 }
 
 // Writes the letters round rows `b` to `t - 1`, clockwise from the lowest of the rows that begin furthest left. More than 612 are only
 // counted.
-fn write_ring(first: &[u8], past: &[u8], b: usize, t: usize, letters: &mut [u8]) -> Ring
-    requires { (length first.now ≡ side) × (length past.now ≡ side) × (b < t) × (t ≤ side) × (length letters.old ≡ longest) }
-    ensures { Ringed (rows first.now) (rows past.now) b t letters.new result }
+fn write_ring(layer: &Layer, b: usize, t: usize, letters: &mut [u8]) -> Ring
+    requires { (b < t) × (t ≤ side) × (length letters.old ≡ longest) }
+    ensures { Ringed (rows layer.now.first.now) (rows layer.now.past.now) b t letters.new result }
 {
-    let lo = widened(first);
-    let hi = widened(past);
+    let lo = widened(layer.first);
+    let hi = widened(layer.past);
     let m = lowest(&lo, b, t);
     let start = Point {
         col: lo[m],
         row: m as u16,
     };
-    let n = count(&lo, &hi, b, t, m);
-    if n <= LONGEST {
+    let count = count(&lo, &hi, b, t, m);
+    if count <= LONGEST {
         round(&lo, &hi, b, t, m, letters);
     }
-    Ring { start, count: n }
+    Ring { start, count }
 }
 
-// Whether 255 bytes are these.
-fn same(part: &[u8], own: &[u8; ROWS]) -> bool
-    requires { length part.now ≡ side }
-    ensures { (result ≡ true) ↔ (part.now ≡ own.now) }
+// Whether these are the rows of a table. It is no `==`: a layer borrows two slices, and a table owns two arrays.
+fn same_rows(layer: &Layer, spans: Spans) -> bool
+    ensures { (result ≡ true) ↔ (spans_from layer.now.first.now layer.now.past.now ≡ spans) }
 {
-    let all = &own[..];
-    let mut i = 0;
-    while i < ROWS {
-        if part[i] != all[i] {
-            return false;
-        }
-        i += 1;
-    }
-    true
-}
-
-// Whether these are the rows of a table.
-fn same_rows(first: &[u8], past: &[u8], spans: Spans) -> bool
-    requires { (length first.now ≡ side) × (length past.now ≡ side) }
-    ensures { (result ≡ true) ↔ (spans_from first.now past.now ≡ spans) }
-{
-    if !same(first, &spans.first) {
-        return false;
-    }
-    same(past, &spans.past)
+    same_bytes(layer.first, &spans.first) && same_bytes(layer.past, &spans.past)
 }
 
 // Whether a set of the outline leaves these rows: the test takes it, and they are its rows.
-fn is_set(first: &[u8], past: &[u8], start: Point, letters: &[u8]) -> bool
-    requires { (length first.now ≡ side) × (length past.now ≡ side) }
-    ensures { (result ≡ true) ↔ SetTo (outline start letters.now) (spans_from first.now past.now) }
+fn is_set(layer: &Layer, start: Point, letters: &[u8]) -> bool
+    ensures { (result ≡ true) ↔ SetTo (outline start letters.now) (spans_from layer.now.first.now layer.now.past.now) }
 {
     let verdict = verdict_of(start, letters);
     match verdict {
-        Verdict::Refused(_) => false,
-        Verdict::Taken {
-            edges: _,
-            anchor: _,
-        } => { same_rows(first, past, spans_of(start, letters)) }
+        Err(_) => false,
+        Ok(_) => same_rows(layer, spans_of(start, letters)),
     }
 }
 
-// What rows are, and the letters of the border from W.
-fn find(first: &[u8], past: &[u8], letters: &mut [u8]) -> Held
-    requires { (length first.now ≡ side) × (length past.now ≡ side) × (length letters.old ≡ longest) }
-    ensures { Holds (spans_from first.now past.now) letters.new result }
+// What the rows of a layer are: 27 if no set leaves them, none if the layer is empty, or the border of the outline, whose letters are then
+// in the buffer.
+fn find(layer: &Layer, letters: &mut [u8]) -> Result<Option<Ring>, Refusal>
+    requires { length letters.old ≡ longest }
+    ensures { Holds (spans_from layer.now.first.now layer.now.past.now) letters.new result }
 {
-    let low = bottom(first, past);
+    let low = layer.bottom();
     if low == END {
-        return if same_rows(first, past, no_spans()) {
-            Held::Empty
+        return if same_rows(layer, no_spans()) {
+            Ok(None)
         } else {
-            Held::Damaged
+            Err(Refusal::Damaged)
         };
     }
-    let high = top(first, past, low);
-    let ring = write_ring(first, past, low as usize, high as usize, letters);
-    let start = ring.start;
-    let count = ring.count;
-    if LONGEST < count {
-        return Held::Damaged;
+    let high = layer.top(low);
+    let ring = write_ring(layer, low as usize, high as usize, letters);
+    if LONGEST < ring.count {
+        return Err(Refusal::Damaged);
     }
-    if is_set(first, past, start, &letters[..count]) {
-        Held::Outline { start, count }
+    if is_set(layer, ring.start, &letters[..ring.count]) {
+        Ok(Some(ring))
     } else {
-        Held::Damaged
+        Err(Refusal::Damaged)
     }
 }
 
 // 18, or the image of an outline at the front of the buffer.
-fn write_image(start: Point, letters: &[u8], image: &mut [u8]) -> PileReply
+fn write_image(start: Point, letters: &[u8], image: &mut [u8]) -> Result<PileAnswer, Refusal>
     requires { (start.col ≤ side) × (start.row ≤ side) × (length letters.now ≤ longest) }
     ensures { Written (image_of (outline start letters.now)) image.old image.new result }
 {
     if image.len() < IMAGE {
-        return PileReply::Refused(Refusal::LetterBuffer);
+        return Err(Refusal::LetterBuffer);
     }
     images::write(
         start.col as u8,
@@ -162,26 +127,21 @@ fn write_image(start: Point, letters: &[u8], image: &mut [u8]) -> PileReply
         letters,
         &mut image[..IMAGE],
     );
-    PileReply::Done
+    Ok(PileAnswer::Done)
 }
 
 // 22, 27, 18, or the image of the layer's outline from W, or of an outline without letters.
-pub fn save(rows: &[u8; ROW_BYTES], layer: u8, image: &mut [u8]) -> PileReply
+pub fn save(rows: &[u8; ROW_BYTES], layer: u8, image: &mut [u8]) -> Result<PileAnswer, Refusal>
     ensures { SavesAt rows.now layer image.old image.new result }
 {
     if LAST_LAYER < layer {
-        return PileReply::Refused(Refusal::Layer);
+        return Err(Refusal::Layer);
     }
-    let all = &rows[..];
-    let at = WIDTH * (layer as usize);
-    let first = part(all, at);
-    let past = part(all, at + ROWS);
     let mut letters = [0u8; LONGEST];
-    let held = find(first, past, &mut letters);
-    match held {
-        Held::Empty => write_image(Point { col: 0, row: 0 }, &letters[..0], image),
-        Held::Outline { start, count } => write_image(start, &letters[..count], image),
-        Held::Damaged => PileReply::Refused(Refusal::Damaged),
+    let found = find(&Layer::of(rows, layer as usize), &mut letters)?;
+    match found {
+        None => write_image(Point { col: 0, row: 0 }, &letters[..0], image),
+        Some(ring) => write_image(ring.start, &letters[..ring.count], image),
     }
 }
 
@@ -191,22 +151,21 @@ pub fn restore(
     state: &mut [u16; STATE_NUMBERS],
     layer: u8,
     image: &[u8],
-) -> PileReply
+) -> Result<PileAnswer, Refusal>
     ensures { says result (arrays rows.new state.new)
         ≡ answer_of (arrays rows.old state.old) (Restore layer image.now) }
 {
     if LAST_LAYER < layer {
-        return PileReply::Refused(Refusal::Layer);
+        return Err(Refusal::Layer);
     }
-    let found = images::read(image);
-    match found {
-        Found::NotImage => PileReply::Refused(Refusal::Image),
-        Found::Outline { start, count } => {
-            if count == 0 {
+    match images::read(image) {
+        None => Err(Refusal::Image),
+        Some(found) => {
+            if found.count == 0 {
                 return set_empty(rows, state, layer);
             }
-            let end = HEADER + count;
-            set(rows, state, layer, start, &image[HEADER..end])
+            let end = HEADER + found.count;
+            set(rows, state, layer, found.start, &image[HEADER..end])
         }
     }
 }

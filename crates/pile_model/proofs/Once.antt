@@ -1,4 +1,5 @@
 -- The model determines its replies: the first dented section is one, and every other reply is an equation.
+use Rattle.std.specs.Prelude.{Err}
 use Prim.Native.Nat.{ℕ, ◌<◌}
 use native.Mathlib.Decide.{dec_lt}
 use native.Mathlib.Omega.{arith}
@@ -6,9 +7,9 @@ use mathlib.Core.Path.{◌≡◌, refl, sym, ap, ◌∙◌}
 use mathlib.Core.Bool.{Bool}
 use mathlib.Core.List.{List, [], ◌∷◌}
 use Rattle.chart.specs.declared.Refusal.TheVariants.{Section}
+use Rattle.chart.specs.declared.SectionKind.TheVariants.{Column, Row}
 use Rattle.lattice.specs.Hull.{Convex}
-use Rattle.pile_replies.specs.declared.PileReply.{PileReply}
-use Rattle.pile_replies.specs.declared.PileReply.TheVariants.{Refused}
+use Rattle.pile_replies.specs.Replies.{PileReply}
 use Rattle.pile_sections.specs.Runs.{HasDent}
 use Rattle.pile_sections.specs.Meaning.{passes, column, row}
 use Rattle.pile_model.specs.Calls.{PileCall, Set, SetEmpty, Check, Query, Restore}
@@ -32,13 +33,13 @@ module _ (ls : Layers) where
   checked-once r s (passes cs rs) (row i h cs' d f) = absurd (no_dent (rs i h) d)
   checked-once r s (column c h d f) (passes cs rs) = absurd (no_dent (cs c h) d)
   checked-once r s (column c h d f) (column c' h' d' f') =
-      ap (λ (k : ℕ). Refused (Section 0 k))
+      ap (λ (k : ℕ). Err (Section Column k))
       (least (λ k. HasDent (column_marks ls k)) (λ k. Convex (column_marks ls k)) (λ k. no_dent) c c' d f d' f')
   checked-once r s (column c h d f) (row i h' cs d' f') = absurd (no_dent (cs c h) d)
   checked-once r s (row i h cs d f) (passes cs' rs) = absurd (no_dent (rs i h) d)
   checked-once r s (row i h cs d f) (column c h' d' f') = absurd (no_dent (cs c h') d')
   checked-once r s (row i h cs d f) (row i' h' cs' d' f') =
-      ap (λ (k : ℕ). Refused (Section 1 k))
+      ap (λ (k : ℕ). Err (Section Row k))
       (least (λ k. HasDent (row_marks ls k)) (λ k. Convex (row_marks ls k)) (λ k. no_dent) i i' d f d' f')
 
 pub answer-once : (b : PileBook) (c : PileCall) (r s : PileReply) → Answers b c r → Answers b c s → r ≡ s

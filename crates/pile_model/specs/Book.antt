@@ -1,12 +1,12 @@
 -- The model of a pile, which the contract calls the plain book (contract 12 and 13.11). It sees the calls and keeps
 -- sixteen layers, each none or an outline, and whether the last check passed and nothing was set since. A
 -- check is stated by hulls: no section has a missing cell, or the first that has one.
-use Rattle.std.specs.Prelude.{ℕ, ◌≡◌, Bool, true, false, cond, List, [], ◌∷◌, ltb}
+use Rattle.std.specs.Prelude.{ℕ, ◌≡◌, Bool, true, false, cond, List, [], ◌∷◌, ltb, Result, Ok, Err}
 use Rattle.std.proofs.Math.Option.{Option, none, some}
 use Rattle.base.specs.Put.{put}
 use Rattle.chart.specs.declared.Point.{Point}
-use Rattle.chart.specs.declared.Verdict.{Verdict}
-use Rattle.chart.specs.declared.Verdict.TheVariants.{Taken, Refused}
+use Rattle.chart.specs.declared.Refusal.{Refusal}
+use Rattle.chart.specs.declared.Taken.{Taken}
 use Rattle.chart.specs.Outline.{Outline}
 use Rattle.chart.specs.declared.Refusal.TheVariants.{Cell, NothingAtWork, Layer, Image}
 use Rattle.convexity.specs.Clockwise.{block}
@@ -14,8 +14,8 @@ use Rattle.verdict.specs.Verdict.{verdict_of}
 use Rattle.polygon.specs.Loose.{bad_cell}
 use Rattle.images.specs.Image.{is_image, held_in}
 use Rattle.sections.specs.Sections.{last_layer}
-use Rattle.pile_replies.specs.declared.PileReply.{PileReply}
-use Rattle.pile_replies.specs.declared.PileReply.TheVariants.{Done, Inside, Outside, Taken as WasTaken, Refused as WasRefused}
+use Rattle.pile_replies.specs.Replies.{PileReply}
+use Rattle.pile_replies.specs.declared.PileAnswer.TheVariants.{Done, Inside, Outside, Taken as WasTaken}
 use Rattle.pile_replies.specs.Replies.{set_reply}
 use Rattle.pile_model.specs.Calls.{PileCall, Set, SetEmpty, Check, Query, Restore}
 use Rattle.pile_sections.specs.Meaning.{AllConvex, CheckedBy}
@@ -65,29 +65,29 @@ NoneDented ls = AllConvex (column_marks ls) (row_marks ls)
 
 -- Whether the layer has the cell
 unfoldable pub located : Option Outline → Point → PileReply
-located v x = cond (marks v x.col x.row) Inside Outside
+located v x = cond (marks v x.col x.row) (Ok Inside) (Ok Outside)
 
 -- 22, 12 and 11, checked in this order
 unfoldable pub queried : PileBook → ℕ → Point → PileReply
 queried b l x =
-    cond (ltb last_layer l) (WasRefused Layer)
-    (cond b.passed (cond (bad_cell x) (WasRefused Cell) (located (b.layers l) x)) (WasRefused NothingAtWork))
+    cond (ltb last_layer l) (Err Layer)
+    (cond b.passed (cond (bad_cell x) (Err Cell) (located (b.layers l) x)) (Err NothingAtWork))
 
 -- The restore of an outline with these letters: without letters a set empty, and otherwise a set
 unfoldable pub restored_reply : Outline → List ℕ → PileReply
-restored_reply o [] = Done
+restored_reply o [] = Ok Done
 restored_reply o (a ∷ w) = set_reply (verdict_of o)
 
 -- 22 and 26, checked in this order. Then the outline whose image the bytes are decides
 unfoldable pub restored : ℕ → List ℕ → PileReply
 restored l bytes =
-    cond (ltb last_layer l) (WasRefused Layer)
-    (cond (is_image bytes) (restored_reply (held_in bytes) (held_in bytes).letters) (WasRefused Image))
+    cond (ltb last_layer l) (Err Layer)
+    (cond (is_image bytes) (restored_reply (held_in bytes) (held_in bytes).letters) (Err Image))
 
 -- The reply is the model's
 unfoldable pub Answers : PileBook → PileCall → PileReply → Type 0
-Answers b (Set l o) r = r ≡ cond (ltb last_layer l) (WasRefused Layer) (set_reply (verdict_of o))
-Answers b (SetEmpty l) r = r ≡ cond (ltb last_layer l) (WasRefused Layer) Done
+Answers b (Set l o) r = r ≡ cond (ltb last_layer l) (Err Layer) (set_reply (verdict_of o))
+Answers b (SetEmpty l) r = r ≡ cond (ltb last_layer l) (Err Layer) (Ok Done)
 Answers b Check r = Checked b.layers r
 Answers b (Query l x) r = r ≡ queried b l x
 Answers b (Restore l bytes) r = r ≡ restored l bytes
@@ -95,9 +95,9 @@ Answers b (Restore l bytes) r = r ≡ restored l bytes
 -- ---- the model after a call
 
 -- A taken outline becomes the layer. A refusal changes nothing
-unfoldable pub set_book : PileBook → ℕ → Outline → Verdict → PileBook
-set_book b l o (Refused f) = b
-set_book b l o (Taken n a) = put_layer b l (some o)
+unfoldable pub set_book : PileBook → ℕ → Outline → Result Taken Refusal → PileBook
+set_book b l o (Err f) = b
+set_book b l o (Ok t) = put_layer b l (some o)
 
 unfoldable pub restored_book : PileBook → ℕ → Outline → List ℕ → PileBook
 restored_book b l o [] = put_layer b l none
@@ -105,11 +105,11 @@ restored_book b l o (a ∷ w) = set_book b l o (verdict_of o)
 
 -- A check that passes replies done
 unfoldable pub is_done : PileReply → Bool
-is_done Done = true
-is_done Inside = false
-is_done Outside = false
-is_done (WasTaken n a) = false
-is_done (WasRefused f) = false
+is_done (Ok Done) = true
+is_done (Ok Inside) = false
+is_done (Ok Outside) = false
+is_done (Ok (WasTaken t)) = false
+is_done (Err f) = false
 
 unfoldable pub next : PileBook → PileCall → PileReply → PileBook
 next b (Set l o) r = cond (ltb last_layer l) b (set_book b l o (verdict_of o))

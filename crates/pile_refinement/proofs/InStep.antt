@@ -1,4 +1,5 @@
 -- The arrays and the model stay in step: each layer has its outline's cells, and both know whether the last check passed.
+use Rattle.std.specs.Prelude.{Result, Ok, Err}
 use Prim.Native.Nat.{ℕ, zero, suc, ◌≤◌, ◌<◌}
 use native.Mathlib.Nat.{zero-add}
 use native.Mathlib.Decide.{dec_lt, ℕ_discrete}
@@ -15,11 +16,14 @@ use Rattle.base.proofs.PutLaws.{put-here, put-elsewhere}
 use Rattle.base.proofs.BelowLaws.{and_right, not-held}
 use Rattle.chart.specs.Limits.{side}
 use Rattle.chart.specs.declared.Point.{Point}
-use Rattle.chart.specs.declared.Verdict.{Verdict}
-use Rattle.chart.specs.declared.Verdict.TheVariants.{Taken, Refused}
+use Rattle.chart.specs.declared.Refusal.{Refusal}
+use Rattle.chart.specs.declared.Taken.{Taken}
+use Rattle.chart.specs.Taken.{taken_with}
 use Rattle.chart.specs.Outline.{Outline}
 use Rattle.chart.specs.Fields.{verdict_fields}
 use Rattle.chart.specs.declared.Refusal.TheVariants.{Cell, NothingAtWork, Section, Image}
+use Rattle.chart.specs.declared.SectionKind.TheVariants.{Column, Row}
+use Rattle.chart.proofs.TakenLaws.{verdict_number}
 use Rattle.rows.specs.parts.Rows.{rows}
 use Rattle.verdict.specs.Verdict.{verdict_of}
 use Rattle.verdict.proofs.VerdictLaws.{TakenFacts, taken-facts}
@@ -36,8 +40,8 @@ use Rattle.span_list.proofs.SlotLaws.{Whole, outline-whole, none-whole, spans-pu
 use Rattle.sections.specs.Sections.{layers, last_layer}
 use Rattle.pile_sections.specs.Sections.{column_clear, row_clear, dented_column, dented_row}
 use Rattle.pile_sections.proofs.RunLaws.{Decided}
-use Rattle.pile_replies.specs.declared.PileReply.{PileReply}
-use Rattle.pile_replies.specs.declared.PileReply.TheVariants.{Done, Inside, Outside, Refused as WasRefused}
+use Rattle.pile_replies.specs.Replies.{PileReply}
+use Rattle.pile_replies.specs.declared.PileAnswer.TheVariants.{Done, Inside, Outside}
 use Rattle.pile_replies.specs.Replies.{set_reply}
 use Rattle.pile_model.specs.Calls.{PileCall, Set, SetEmpty, Check, Query, Restore}
 use Rattle.pile_sections.specs.Meaning.{AllConvex, CheckedBy, passes, column, row}
@@ -79,13 +83,13 @@ kept-none : KeptAs none no_spans
 unfolding no_spans
 kept-none = kept-nothing no_spans (λ r. zeros side r)
 
-kept-some : (o : Outline) (n : ℕ) (a : Point) → verdict_of o ≡ Taken n a → KeptAs (some o) (spans_of o)
+kept-some : (o : Outline) (n : ℕ) (a : Point) → verdict_of o ≡ taken_with n a → KeptAs (some o) (spans_of o)
 unfolding marks
 kept-some o n a e =
     let f : TakenFacts o n a = taken-facts o n a e in
     record {
       exact = spans-exact o f.reaches;
-      whole = (taken-iff-convex o f.reaches.simple).0 (ap (λ (v : Verdict). (verdict_fields v).number) e);
+      whole = (taken-iff-convex o f.reaches.simple).0 (ap verdict_number e);
       fits = past-le o;
     }
 
@@ -151,8 +155,8 @@ check-keeps p = go (ltb (dented_column (layers_in p)) side) (ltb (dented_row (la
   where
     replied : Bool → Bool → Piled
     replied b d =
-        cond b (says (WasRefused (Section 0 (dented_column (layers_in p)))) (failing p))
-        (cond d (says (WasRefused (Section 1 (dented_row (layers_in p)))) (failing p)) (says Done (passing p)))
+        cond b (says (Err (Section Column (dented_column (layers_in p)))) (failing p))
+        (cond d (says (Err (Section Row (dented_row (layers_in p)))) (failing p)) (says (Ok Done) (passing p)))
 
     go : (b d : Bool) → ((replied b d).pile.rows ≡ p.rows) × (passed (replied b d).pile ≡ is_done (replied b d).reply)
     go true d = fail-state p
@@ -187,7 +191,7 @@ checked-done r (passes cs rs) e = record { at_columns = cs; at_rows = rs }
 checked-done r (column c h d f) e = absurd (true≢false (sym e))
 checked-done r (row i h cs d f) e = absurd (true≢false (sym e))
 
-pub done-checked : {columns rows : ℕ → ℕ → ℕ → Bool} (r : PileReply) → CheckedBy columns rows r → AllConvex columns rows → r ≡ Done
+pub done-checked : {columns rows : ℕ → ℕ → ℕ → Bool} (r : PileReply) → CheckedBy columns rows r → AllConvex columns rows → r ≡ Ok Done
 done-checked r (passes cs rs) a = refl
 done-checked r (column c h (x, m) f) a = absurd (a.at_columns c h x m)
 done-checked r (row i h cs (x, m) f) a = absurd (a.at_rows i h x m)
@@ -222,11 +226,11 @@ module _ (b : PileBook) (p : Pile) (t : InStep b p) where
 
   -- ---- the calls
 
-  set-verdict : (l : ℕ) (o : Outline) → l ≤ last_layer → (v : Verdict) → verdict_of o ≡ v
+  set-verdict : (l : ℕ) (o : Outline) → l ≤ last_layer → (v : Result Taken Refusal) → verdict_of o ≡ v
       → ((set_as p l o v).reply ≡ set_reply v) × InStep (set_book b l o v) (set_as p l o v).pile
   unfolding set_as set_book set_reply
-  set-verdict l o h (Refused f) e = (refl, t)
-  set-verdict l o h (Taken n a) e = (refl, step-put l (some o) (spans_of o) h (outline-whole o) (kept-some o n a e))
+  set-verdict l o h (Err f) e = (refl, t)
+  set-verdict l o h (Ok t) e = (refl, step-put l (some o) (spans_of o) h (outline-whole o) (kept-some o t.edges t.anchor e))
 
   step_set : (l : ℕ) (o : Outline)
       → Answers b (Set l o) (set_of p l o).reply × InStep (next b (Set l o) (set_of p l o).reply) (set_of p l o).pile
@@ -263,8 +267,8 @@ module _ (b : PileBook) (p : Pile) (t : InStep b p) where
       ]
     where
       go : (i : Bool) {x : Piled} {r : PileReply} {c : PileBook} → (x.reply ≡ r) × InStep c x.pile
-          → ((cond i x (says (WasRefused Image) p)).reply ≡ cond i r (WasRefused Image)) × InStep (cond i c b)
-          (cond i x (says (WasRefused Image) p)).pile
+          → ((cond i x (says (Err Image) p)).reply ≡ cond i r (Err Image)) × InStep (cond i c b)
+          (cond i x (says (Err Image) p)).pile
       go true s = s
       go false s = (refl, t)
 
@@ -294,7 +298,7 @@ module _ (b : PileBook) (p : Pile) (t : InStep b p) where
         | yes h ↦ rw (lt-ltb last_layer l h)
         | no h ↦
             rw (t.same, le-ltb last_layer l (omega arith), ← layer-read p.rows l (omega arith))
-            (ap (λ (v : Bool). cond b.passed (cond (bad_cell x) (WasRefused Cell) (cond v Inside Outside)) (WasRefused NothingAtWork))
+            (ap (λ (v : Bool). cond b.passed (cond (bad_cell x) (Err Cell) (cond v (Ok Inside) (Ok Outside))) (Err NothingAtWork))
             ((t.kept l).exact x.col x.row))
       ]
 

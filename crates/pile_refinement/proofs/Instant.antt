@@ -1,5 +1,6 @@
 -- While the word is not that of a pile that has passed, no query reads the rows. A set takes the word away by its first store, and a check
 -- writes it by its last, so at each moment a query gets the reply from before the call, 12, or the reply from after it.
+use Rattle.std.specs.Prelude.{Result, Ok, Err}
 use Prim.Native.Nat.{ℕ, zero, suc, ◌+◌, ◌*◌, ◌≤◌, ◌<◌}
 use native.Mathlib.Decide.{dec_lt}
 use native.Mathlib.Omega.{arith}
@@ -14,9 +15,10 @@ use borrow.Author.Tests.{lt-ltb, le-ltb}
 use Rattle.chart.specs.Limits.{side}
 use Rattle.chart.specs.Outline.{Outline}
 use Rattle.chart.specs.declared.Point.{Point}
-use Rattle.chart.specs.declared.Verdict.{Verdict}
-use Rattle.chart.specs.declared.Verdict.TheVariants.{Taken, Refused}
+use Rattle.chart.specs.declared.Refusal.{Refusal}
+use Rattle.chart.specs.declared.Taken.{Taken}
 use Rattle.chart.specs.declared.Refusal.TheVariants.{Section, Image}
+use Rattle.chart.specs.declared.SectionKind.TheVariants.{Column, Row}
 use Rattle.verdict.specs.Verdict.{verdict_of}
 use Rattle.images.specs.Image.{is_image, held_in}
 use Rattle.spans.specs.declared.Spans.{Spans}
@@ -25,11 +27,11 @@ use Rattle.span_list.specs.SpanList.{slot_bytes}
 use Rattle.span_list.proofs.SlotLaws.{Whole, outline-whole, none-whole}
 use Rattle.sections.specs.Sections.{layers, last_layer}
 use Rattle.pile_sections.specs.Sections.{dented_column, dented_row}
-use Rattle.pile_replies.specs.declared.PileReply.TheVariants.{Done, Refused as WasRefused}
+use Rattle.pile_replies.specs.declared.PileAnswer.TheVariants.{Done}
 use Rattle.pile_model.specs.Calls.{PileCall, Set, SetEmpty, Check, Query, Restore}
 use Rattle.pile_calls.specs.declared.Pile.{Pile}
 use Rattle.pile_calls.specs.declared.Piled.{Piled}
-use Rattle.pile_calls.specs.declared.Progress.TheVariants.{More, Replied}
+use Rattle.std.specs.declared.option.Option.TheVariants.{None, Some}
 use Rattle.pile_calls.specs.declared.Stepped.{Stepped}
 use Rattle.pile_calls.specs.Arrays.{arrays, says, layers_in, passed_word, word as word_of, passed, position as position_of, with_state, layer_put}
 use Rattle.pile_calls.specs.Arrays.{passing, failing, set_as, set_of, empty_of, check_of, query_of, restored_as, restore_of, answer_of, Fits}
@@ -180,15 +182,15 @@ puts-leave p f l h x w =
 -- ---- the calls
 
 module _ (p : Pile) (f : Fits p) where
-  set-leaves : (l : ℕ) (o : Outline) → l < layers → (v : Verdict) → stored_all p (set_stores l o v) ≡ (set_as p l o v).pile
+  set-leaves : (l : ℕ) (o : Outline) → l < layers → (v : Result Taken Refusal) → stored_all p (set_stores l o v) ≡ (set_as p l o v).pile
   unfolding set_stores set_as stored_all
-  set-leaves l o h (Refused g) = refl
-  set-leaves l o h (Taken n a) = puts-leave p f l h (spans_of o) (outline-whole o)
+  set-leaves l o h (Err g) = refl
+  set-leaves l o h (Ok t) = puts-leave p f l h (spans_of o) (outline-whole o)
 
-  set-between : (l : ℕ) (o : Outline) (v : Verdict) → Throughout (Between p (set_as p l o v).pile) p (set_stores l o v)
+  set-between : (l : ℕ) (o : Outline) (v : Result Taken Refusal) → Throughout (Between p (set_as p l o v).pile) p (set_stores l o v)
   unfolding set_stores set_as Throughout
-  set-between l o (Refused g) = here p p
-  set-between l o (Taken n a) = puts-between p _ l (spans_of o)
+  set-between l o (Err g) = here p p
+  set-between l o (Ok t) = puts-between p _ l (spans_of o)
 
   restore-leaves : (l : ℕ) (o : Outline) → l < layers → (w : List ℕ) → stored_all p (restore_stores l o w) ≡ (restored_as p l o w).pile
   unfolding restore_stores restored_as
@@ -219,8 +221,8 @@ module _ (p : Pile) (f : Fits p) where
   -- The pile after a check, by its two tests
   abbrev checked : Bool → Bool → Piled
   checked b d =
-      cond b (says (WasRefused (Section 0 (dented_column (layers_in p)))) (failing p))
-      (cond d (says (WasRefused (Section 1 (dented_row (layers_in p)))) (failing p)) (says Done (passing p)))
+      cond b (says (Err (Section Column (dented_column (layers_in p)))) (failing p))
+      (cond d (says (Err (Section Row (dented_row (layers_in p)))) (failing p)) (says (Ok Done) (passing p)))
 
   check-leaves : stored_all p (stores_of p Check) ≡ (answer_of p Check).pile
   unfolding stores_of answer_of check_of
@@ -262,7 +264,7 @@ module _ (p : Pile) (f : Fits p) where
       ]
     where
       go : (t : Bool) (ss : List Store) (x : Piled) → stored_all p ss ≡ x.pile → stored_all p (cond t ss []) ≡ (cond t x
-          (says (WasRefused Image) p)).pile
+          (says (Err Image) p)).pile
       go true ss x e = e
       go false ss x e = refl
 
@@ -288,7 +290,7 @@ module _ (p : Pile) (f : Fits p) where
       ]
     where
       go : (t : Bool) (ss : List Store) (x : Piled) → Throughout (Between p x.pile) p ss
-          → Throughout (Between p (cond t x (says (WasRefused Image) p)).pile) p (cond t ss [])
+          → Throughout (Between p (cond t x (says (Err Image) p)).pile) p (cond t ss [])
       go true ss x e = e
       go false ss x e = here p p
 
@@ -296,8 +298,8 @@ module _ (p : Pile) (f : Fits p) where
 
   abbrev stepped_by : ℕ → Bool → Bool → Stepped
   stepped_by k b d =
-      cond b (cond d (stepped More (with_state p (word_of p) (k + 1))) (stepped (Replied Done) (passing p)))
-      (stepped (Replied (dent_at k)) (ending p))
+      cond b (cond d (stepped None (with_state p (word_of p) (k + 1))) (stepped (Some (Ok Done)) (passing p)))
+      (stepped (Some (dent_at k)) (ending p))
 
   abbrev step_stores_by : ℕ → Bool → Bool → List Store
   step_stores_by k b d = cond b (cond d (position (k + 1) ∷ []) passes) (cond (passed p) unpasses (position 0 ∷ []))

@@ -1,5 +1,6 @@
 -- Each layer's rows are what a set or a set empty left there, so a save gives the image of the book's outline, and a restore puts the
 -- same rows back.
+use Rattle.std.specs.Prelude.{Result, Ok, Err}
 use Prim.Native.Nat.{ℕ, ◌+◌, ◌≤◌, ◌<◌}
 use native.Mathlib.Decide.{ℕ_discrete, dec_lt}
 use native.Mathlib.Omega.{arith}
@@ -18,8 +19,9 @@ use Rattle.chart.specs.Limits.{longest}
 use Rattle.chart.specs.declared.Point.{Point}
 use Rattle.chart.specs.Outline.{Outline, at, outline}
 use Rattle.chart.specs.declared.Refusal.TheVariants.{LetterBuffer, Image, Damaged}
-use Rattle.chart.specs.declared.Verdict.{Verdict}
-use Rattle.chart.specs.declared.Verdict.TheVariants.{Taken, Refused}
+use Rattle.chart.specs.declared.Refusal.{Refusal}
+use Rattle.chart.specs.declared.Taken.{Taken}
+use Rattle.chart.specs.Taken.{taken_with}
 use Rattle.lattice.proofs.WalkLaws.{walked}
 use Rattle.convexity.specs.Clockwise.{border}
 use Rattle.verdict.specs.Verdict.{verdict_of}
@@ -30,16 +32,16 @@ use Rattle.span_list.proofs.SlotLaws.{Whole, outline-whole, none-whole, spans-pu
 use Rattle.images.specs.Image.{image_bytes, image_of, IsImage, is_image, held_in}
 use Rattle.images.proofs.Images.{image-iff, image-held}
 use Rattle.sections.specs.Sections.{last_layer}
-use Rattle.pile_replies.specs.declared.PileReply.{PileReply}
-use Rattle.pile_replies.specs.declared.PileReply.TheVariants.{Done as Fine, Refused as WasRefused}
+use Rattle.pile_replies.specs.Replies.{PileReply}
+use Rattle.pile_replies.specs.declared.PileAnswer.TheVariants.{Done as Fine}
 use Rattle.pile_replies.specs.Replies.{pile_fields}
 use Rattle.pile_model.specs.Calls.{PileCall, Set, SetEmpty, Check, Query, Restore}
 use Rattle.pile_model.specs.Book.{Layers, PileBook, fresh, put_layer, set_book, restored_book, next}
 use Rattle.live_sections.specs.Layers.{layer_bytes}
 use Rattle.pile_calls.specs.declared.Pile.{Pile}
 use Rattle.pile_calls.specs.declared.Piled.{Piled}
-use Rattle.pile_calls.specs.declared.Progress.{Progress}
-use Rattle.pile_calls.specs.declared.Progress.TheVariants.{More, Replied}
+use Rattle.std.specs.declared.option.Option.{Option as Optional}
+use Rattle.std.specs.declared.option.Option.TheVariants.{None, Some}
 use Rattle.pile_calls.specs.declared.Stepped.{Stepped}
 use Rattle.pile_calls.specs.Arrays.{says, layer_put, set_as, set_of, empty_of, restored_as, restore_of, answer_of, position, fresh_pile}
 use Rattle.pile_calls.specs.Steps.{steps_of}
@@ -75,12 +77,13 @@ module _ (b : PileBook) (p : Pile) (size : length p.rows ≡ layer_bytes) (a : A
   abbrev Stays : PileBook → Pile → Type 0
   Stays c q = AllLeft c.layers q.rows
 
-  left-set : (l : ℕ) (o : Outline) → l ≤ last_layer → (v : Verdict) → verdict_of o ≡ v → Stays (set_book b l o v) (set_as p l o v).pile
+  left-set : (l : ℕ) (o : Outline) → l ≤ last_layer → (v : Result Taken Refusal) → verdict_of o ≡ v
+      → Stays (set_book b l o v) (set_as p l o v).pile
   unfolding set_as set_book put_layer LeftBy
-  left-set l o h (Refused f) e = a
-  left-set l o h (Taken n c) e =
+  left-set l o h (Err f) e = a
+  left-set l o h (Ok t) e =
       left-put b.layers p.rows size a l h (some o) (spans_of o) (outline-whole o)
-      (record { edges_counted = n; anchor = c; taken = e; rows = refl })
+      (record { edges_counted = t.edges; anchor = t.anchor; taken = e; rows = refl })
 
   left-empty : (l : ℕ) → l ≤ last_layer → AllLeft (put b.layers l none) (rows_put p.rows l no_spans)
   unfolding LeftBy
@@ -112,7 +115,7 @@ module _ (b : PileBook) (p : Pile) (size : length p.rows ≡ layer_bytes) (a : A
             rw (le-ltb last_layer l (omega arith)) (go (is_image i) _ _ (left-restore l (held_in i) (omega arith) (held_in i).letters))
       ]
     where
-      go : (t : Bool) (c : PileBook) (x : Piled) → Stays c x.pile → Stays (cond t c b) (cond t x (says (WasRefused Image) p)).pile
+      go : (t : Bool) (c : PileBook) (x : Piled) → Stays c x.pile → Stays (cond t c b) (cond t x (says (Err Image) p)).pile
       go true c x s = s
       go false c x s = a
 
@@ -127,10 +130,10 @@ steps-rows n p u = go (steps_of n p) (steps-do n p u)
     go s (ends e) = ap (λ (x : Stepped). x.pile.rows) e ∙ (check-keeps (anew p)).0
     go s (rests e near before) = ap (λ (x : Stepped). x.pile.rows) e
 
-step-layers : (b : PileBook) (x : Progress) → (next_step b x).layers ≡ b.layers
+step-layers : (b : PileBook) (x : Optional PileReply) → (next_step b x).layers ≡ b.layers
 unfolding next_step next
-step-layers b More = refl
-step-layers b (Replied r) = refl
+step-layers b None = refl
+step-layers b (Some r) = refl
 
 -- ---- after any calls from a fresh pile
 
@@ -150,9 +153,9 @@ layers-left ms = stays-left ms fresh fresh_pile step-fresh under-fresh left-fres
 
 -- A save gives the image of the border of the outline last set there, or of an empty layer: 0, or 18 if the buffer is short
 pub record SavedAs (v : Option Outline) (before after numbers : List ℕ) : Type 0 where
-  pub short : length before < image_bytes → (numbers ≡ numbers_of (pile_fields (WasRefused LetterBuffer))) × (after ≡ before)
+  pub short : length before < image_bytes → (numbers ≡ numbers_of (pile_fields (Err LetterBuffer))) × (after ≡ before)
   pub room : image_bytes ≤ length before
-      → (numbers ≡ numbers_of (pile_fields Fine)) × (after ≡ layer_image v ++ drop image_bytes before)
+      → (numbers ≡ numbers_of (pile_fields (Ok Fine))) × (after ≡ layer_image v ++ drop image_bytes before)
 
 pub save-theorem : (ms : List Move) (l : ℕ) → l ≤ last_layer → (before after numbers : List ℕ)
     → SaveWritten (pile_of ms).rows l before after numbers → SavedAs ((book_of ms).layers l) before after numbers
@@ -161,23 +164,21 @@ save-theorem ms l h before after numbers w =
     let n : (r : PileReply) → w.answer ≡ r → numbers ≡ numbers_of (pile_fields r) =
     λ r e. w.written ∙ ap (λ (x : PileReply). numbers_of (pile_fields x)) e in
     record {
-      short = λ k. let (a, b) = s.short k in (n (WasRefused LetterBuffer) a, b);
-      room = λ k. let (a, b) = s.room k in (n Fine a, b);
+      short = λ k. let (a, b) = s.short k in (n (Err LetterBuffer) a, b);
+      room = λ k. let (a, b) = s.room k in (n (Ok Fine) a, b);
     }
 
 -- ---- 27
 
-short-other : WasRefused LetterBuffer ≡ WasRefused Damaged → ⊥
-unfolding pile_fields
-short-other e = omega (arith, ap (λ (y : PileReply). (pile_fields y).number) e)
+short-other : ◌≡◌ {A = PileReply} (Err LetterBuffer) (Err Damaged) → ⊥
+short-other e = cc
 
-done-other : Fine ≡ WasRefused Damaged → ⊥
-unfolding pile_fields
-done-other e = omega (arith, ap (λ (y : PileReply). (pile_fields y).number) e)
+done-other : ◌≡◌ {A = PileReply} (Ok Fine) (Err Damaged) → ⊥
+done-other e = cc
 
 -- A save is refused by 27 exactly if the rows are what no set and no set empty leaves
 pub damaged-iff : (s : Spans) (before after : List ℕ) (r : PileReply) → Saves s before after r
-    → (r ≡ WasRefused Damaged) ↔ ((v : Option Outline) → LeftBy v s → ⊥)
+    → (r ≡ Err Damaged) ↔ ((v : Option Outline) → LeftBy v s → ⊥)
 damaged-iff s before after r w = (
   λ d v k.
       elim (dec_lt (length before) image_bytes) [
@@ -200,7 +201,8 @@ module _ (o : Outline) (short : length o.letters ≤ longest) where
   unfolding answer_of restore_of
   as-restored p k h = rw (le-ltb last_layer k h, is-image) (ap (λ (v : Outline). restored_as p k v v.letters) (image-held own-image))
 
-taken-put : (p : Pile) (k : ℕ) (o : Outline) (v : Verdict) (n : ℕ) (a : Point) → v ≡ Taken n a → (set_as p k o v).pile ≡ layer_put p k
+taken-put : (p : Pile) (k : ℕ) (o : Outline) (v : Result Taken Refusal) (n : ℕ) (a : Point) → v ≡ taken_with n a
+    → (set_as p k o v).pile ≡ layer_put p k
     (spans_of o)
 unfolding set_as
 taken-put p k o v n a e = rw e refl

@@ -1,9 +1,10 @@
 -- No section before the position is dented, so the section that ends a check in steps is the one that the whole check names, or the last.
+use Rattle.std.specs.Prelude.{Result, Ok, Err}
 use Prim.Native.Nat.{ℕ, zero, suc, ◌+◌, ◌-◌, ◌≤◌, ◌<◌}
 use native.Mathlib.Decide.{dec_lt, ℕ_discrete}
 use native.Mathlib.Omega.{arith}
 use mathlib.Core.Path.{◌≡◌, refl, sym, ap, ◌∙◌}
-use mathlib.Core.Bool.{Bool, true, false, true≢false, not, cond}
+use mathlib.Core.Bool.{Bool, true, false, not, cond}
 use mathlib.Core.List.{List, [], ◌∷◌}
 use lib.ListN.{length, get_or}
 use lib.Dec.{ltb}
@@ -11,20 +12,19 @@ use borrow.Author.Tests.{lt-ltb, le-ltb}
 use Rattle.base.proofs.BelowLaws.{first-is, first-none}
 use Rattle.chart.specs.Limits.{side}
 use Rattle.chart.specs.Outline.{Outline}
-use Rattle.chart.specs.declared.Verdict.{Verdict}
-use Rattle.chart.specs.declared.Verdict.TheVariants.{Taken, Refused}
+use Rattle.chart.specs.declared.Refusal.{Refusal}
+use Rattle.chart.specs.declared.Taken.{Taken}
 use Rattle.spans.specs.declared.Spans.{Spans}
 use Rattle.verdict.specs.Verdict.{verdict_of}
 use Rattle.sections.specs.Sections.{last_layer}
 use Rattle.pile_sections.specs.Sections.{column_clear, row_clear, dented_column, dented_row}
-use Rattle.pile_replies.specs.declared.PileReply.{PileReply}
-use Rattle.pile_replies.specs.declared.PileReply.TheVariants.{Done}
+use Rattle.pile_replies.specs.Replies.{PileReply}
+use Rattle.pile_replies.specs.declared.PileAnswer.TheVariants.{Done}
 use Rattle.images.specs.Image.{is_image, held_in}
 use Rattle.pile_model.specs.Calls.{PileCall, Set, SetEmpty, Check, Query, Restore}
 use Rattle.pile_calls.specs.declared.Pile.{Pile}
 use Rattle.pile_calls.specs.declared.Piled.{Piled}
-use Rattle.pile_calls.specs.declared.Progress.{Progress}
-use Rattle.pile_calls.specs.declared.Progress.TheVariants.{More, Replied}
+use Rattle.std.specs.declared.option.Option.TheVariants.{None, Some}
 use Rattle.pile_calls.specs.declared.Stepped.{Stepped}
 use Rattle.pile_calls.specs.Arrays.{arrays, says, layers_in, word, passed, position, with_state, passing, failing}
 use Rattle.pile_calls.specs.Arrays.{set_as, set_of, empty_of, check_of, restored_as, restore_of, answer_of, fresh_pile}
@@ -82,7 +82,7 @@ module _ (p : Pile) (k : ℕ) (near : k < sections) (before : ClearBefore (layer
             (ap (λ (r : PileReply). says r (failing p)) (dent-row k past))
       ]
 
-check-passes : (p : Pile) → ClearBefore (layers_in p) sections → check_of p ≡ says Done (passing p)
+check-passes : (p : Pile) → ClearBefore (layers_in p) sections → check_of p ≡ says (Ok Done) (passing p)
 unfolding check_of
 check-passes p all =
     let e = columns-none (layers_in p) sections all (omega arith) in
@@ -110,7 +110,7 @@ ends-failing p = go (passed p)
     go false = refl
 
 abbrev whole_by : Piled → Stepped
-whole_by x = stepped (Replied x.reply) x.pile
+whole_by x = stepped (Some x.reply) x.pile
 
 clear_next : (ls : List Spans) (k : ℕ) → ClearBefore ls k → clear_at ls k ≡ true → ClearBefore ls (k + 1)
 clear_next ls k before e j h = elim (ℕ_discrete j k) [ yes is ↦ rw is e | no is ↦ before j (omega arith) ]
@@ -118,7 +118,7 @@ clear_next ls k before e j h = elim (ℕ_discrete j k) [ yes is ↦ rw is e | no
 -- A step that replies does as the whole check, and any other goes on
 data Does (p : Pile) (k : ℕ) : Stepped → Type 0 where
   replies : {s : Stepped} → s ≡ whole (anew p) → Does p k s
-  goes : {s : Stepped} → s ≡ stepped More (with_state p (word p) (k + 1)) → k + 1 < sections → ClearBefore (layers_in p) (k + 1) → Does p k s
+  goes : {s : Stepped} → s ≡ stepped None (with_state p (word p) (k + 1)) → k + 1 < sections → ClearBefore (layers_in p) (k + 1) → Does p k s
 
 step-does : (p : Pile) → Under p → Does p (position p) (step_of p)
 unfolding whole
@@ -150,7 +150,7 @@ goes-under p k h before = record { two = refl; near = h; before = before }
 
 pub data Do (p : Pile) (k : ℕ) : Stepped → Type 0 where
   ends : {s : Stepped} → s ≡ whole (anew p) → Do p k s
-  rests : {s : Stepped} → s ≡ stepped More (with_state p (word p) k) → k < sections → ClearBefore (layers_in p) k → Do p k s
+  rests : {s : Stepped} → s ≡ stepped None (with_state p (word p) k) → k < sections → ClearBefore (layers_in p) k → Do p k s
 
 -- From a step further
 do-back : (p : Pile) (j k : ℕ) (s : Stepped) → Do (with_state p (word p) j) k s → Do p k s
@@ -161,7 +161,7 @@ pub steps-do : (n : ℕ) (p : Pile) → Under p → Do p (position p + n) (steps
 unfolding steps_of onward whole
 steps-do zero p u =
     let here : position p + 0 ≡ position p = omega arith in
-    rw here (rests (ap (λ (s : List ℕ). stepped More (arrays p.rows s)) u.two) u.near u.before)
+    rw here (rests (ap (λ (s : List ℕ). stepped None (arrays p.rows s)) u.two) u.near u.before)
 steps-do (suc n) p u = go (step_of p) (step-does p u) (λ q v. steps-do n q v)
   where
     go : (s : Stepped) → Does p (position p) s → ((q : Pile) → Under q → Do q (position q + n) (steps_of n q))
@@ -214,10 +214,10 @@ under-fail p u = go (passed p)
     go true = under-zero p.rows 0
     go false = u
 
-under-set : (p : Pile) → Under p → (l : ℕ) (o : Outline) (v : Verdict) → Under (set_as p l o v).pile
+under-set : (p : Pile) → Under p → (l : ℕ) (o : Outline) (v : Result Taken Refusal) → Under (set_as p l o v).pile
 unfolding set_as
-under-set p u l o (Refused f) = u
-under-set p u l o (Taken n a) = under-zero _ 0
+under-set p u l o (Err f) = u
+under-set p u l o (Ok t) = under-zero _ 0
 
 under-restore : (p : Pile) → Under p → (l : ℕ) (o : Outline) (w : List ℕ) → Under (restored_as p l o w).pile
 unfolding restored_as
@@ -249,16 +249,11 @@ under-move p u renew = under-fresh
 under-move p u (call c) = under-call p u c
 under-move p u (steps n) = under-steps n p u
 
-is_more : Progress → Bool
-is_more More = true
-is_more (Replied r) = false
-
-no_more : (r : PileReply) → Replied r ≡ More → ⊥
-unfolding is_more
-no_more r e = true≢false (sym (ap is_more e))
+no_more : (r : PileReply) → Some r ≡ None → ⊥
+no_more r e = cc
 
 -- A step that does not reply leaves the rows and the word: a pile that had not passed still has not
-pub more-keeps : (p : Pile) → (step_of p).progress ≡ More → ((step_of p).pile.rows ≡ p.rows) × (word (step_of p).pile ≡ word p)
+pub more-keeps : (p : Pile) → (step_of p).progress ≡ None → ((step_of p).pile.rows ≡ p.rows) × (word (step_of p).pile ≡ word p)
 unfolding step_of step_at
 more-keeps p = go (clear_at (layers_in p) k) (ltb k 509)
   where
@@ -267,10 +262,10 @@ more-keeps p = go (clear_at (layers_in p) k) (ltb k 509)
 
     said : Bool → Bool → Stepped
     said b d =
-        cond b (cond d (stepped More (with_state p (word p) (k + 1))) (stepped (Replied Done) (passing p)))
-        (stepped (Replied (dent_at k)) (ending p))
+        cond b (cond d (stepped None (with_state p (word p) (k + 1))) (stepped (Some (Ok Done)) (passing p)))
+        (stepped (Some (dent_at k)) (ending p))
 
-    go : (b d : Bool) → (said b d).progress ≡ More → ((said b d).pile.rows ≡ p.rows) × (word (said b d).pile ≡ word p)
+    go : (b d : Bool) → (said b d).progress ≡ None → ((said b d).pile.rows ≡ p.rows) × (word (said b d).pile ≡ word p)
     go true true e = (refl, refl)
-    go true false e = absurd (no_more Done e)
+    go true false e = absurd (no_more (Ok Done) e)
     go false d e = absurd (no_more (dent_at k) e)

@@ -1,4 +1,5 @@
 -- Arrays and model stay in step through every call that C makes, so each reply is the model's, by induction over the list.
+use Rattle.std.specs.Prelude.{Ok}
 use Prim.Native.Nat.{ℕ, ◌+◌, ◌≤◌, ◌<◌}
 use mathlib.Core.Path.{◌≡◌, refl, sym, ap, ap₂, ◌∙◌}
 use mathlib.Core.Bool.{true, false}
@@ -12,21 +13,21 @@ use Rattle.chart.specs.declared.Point.{Point}
 use Rattle.lattice.specs.Hull.{InHull}
 use Rattle.polygon.specs.Loose.{bad_cell}
 use Rattle.sections.specs.Sections.{layers, last_layer}
-use Rattle.pile_replies.specs.declared.PileReply.{PileReply}
-use Rattle.pile_replies.specs.declared.PileReply.TheVariants.{Done as Fine}
+use Rattle.pile_replies.specs.Replies.{PileReply}
+use Rattle.pile_replies.specs.declared.PileAnswer.TheVariants.{Done as Fine}
 use Rattle.pile_replies.specs.Replies.{pile_fields}
 use Rattle.pile_model.specs.Calls.{PileCall, Check, Query}
 use Rattle.pile_model.specs.Book.{PileBook, fresh, column_marks, row_marks, Checked, NoneDented, located, queried, Answers, next, AllAnswer}
 use Rattle.pile_model.proofs.Sections.{column-plane, row-plane}
 use Rattle.pile_model.proofs.Once.{replies-once}
 use Rattle.pile_calls.specs.declared.Pile.{Pile}
-use Rattle.pile_calls.specs.declared.Progress.{Progress}
-use Rattle.pile_calls.specs.declared.Progress.TheVariants.{More, Replied}
+use Rattle.std.specs.declared.option.Option.{Option}
+use Rattle.std.specs.declared.option.Option.TheVariants.{None, Some}
 use Rattle.pile_calls.specs.declared.Stepped.{Stepped}
 use Rattle.pile_calls.specs.Arrays.{layers_in, word, passed, position, with_state, check_of, answer_of, fresh_pile, Fits}
 use Rattle.pile_calls.specs.Steps.{sections, steps_of}
 use Rattle.pile_written.specs.Written.{progress_fields, Done, StepsDone, CheckWritten}
-use Rattle.pile_written.proofs.WrittenLaws.{check-written}
+use Rattle.pile_written.proofs.WrittenLaws.{check_written}
 use Rattle.pile_refinement.specs.Moves.{replies_from, whole, Move, renew, call, steps, moved, moved_by, said_by}
 use Rattle.pile_refinement.specs.Moves.{Made, end, renewed, called, went, AllMoves, next_step, book_by}
 use Rattle.pile_refinement.proofs.InStep.{InStep, step-fresh, step-check, step-query, call-agrees, said, done-checked, layers-size}
@@ -54,9 +55,9 @@ still : (b : PileBook) (p : Pile) → InStep b p → (k : ℕ) → InStep b (wit
 still b p t k = record { size = t.size; kept = t.kept; same = t.same; whole = t.whole }
 
 -- What a step replies: more, or a check's reply in the model
-unfoldable pub StepAnswers : PileBook → Progress → Type 0
-StepAnswers b More = Unit {0}
-StepAnswers b (Replied r) = Answers b Check r
+unfoldable pub StepAnswers : PileBook → Option PileReply → Type 0
+StepAnswers b None = Unit {0}
+StepAnswers b (Some r) = Answers b Check r
 
 pub steps-agree : (n : ℕ) (b : PileBook) (p : Pile) → InStep b p → Under p
     → StepAnswers b (steps_of n p).progress × InStep (next_step b (steps_of n p).progress) (steps_of n p).pile
@@ -69,11 +70,11 @@ steps-agree n b p t u = go (steps_of n p) (steps-do n p u)
 
 -- ---- what C calls
 
-step-moves : (b : PileBook) (x : Progress) → StepAnswers b x → (n : ℕ) (ms : List Move) (rs : List Progress) → AllMoves (next_step b x) ms rs
+step-moves : (b : PileBook) (x : Option PileReply) → StepAnswers b x → (n : ℕ) (ms : List Move) (rs : List (Option PileReply)) → AllMoves (next_step b x) ms rs
     → AllMoves b (steps n ∷ ms) (x ∷ rs)
 unfolding StepAnswers AllMoves next_step
-step-moves b More a n ms rs later = later
-step-moves b (Replied r) a n ms rs later = (a, later)
+step-moves b None a n ms rs later = later
+step-moves b (Some r) a n ms rs later = (a, later)
 
 moves-agree : (ms : List Move) (b : PileBook) (p : Pile) → InStep b p → Under p → AllMoves b ms (said_by p ms)
 unfolding AllMoves said_by moved
@@ -91,7 +92,7 @@ pub moves-theorem : (ms : List Move) → AllMoves fresh ms (said_by fresh_pile m
 moves-theorem ms = moves-agree ms fresh fresh_pile step-fresh under-fresh
 
 -- Seven numbers
-abbrev pub written : Progress → List ℕ
+abbrev pub written : Option PileReply → List ℕ
 written x = numbers_of (progress_fields x)
 
 made-says : (p : Pile) (ms : List Move) (rs : List (List ℕ)) (q : Pile) → Made p ms rs q
@@ -127,7 +128,7 @@ pile_of ms = moved_by fresh_pile ms
 
 -- As C makes them: from any memory, made a fresh pile, the numbers written are the model's replies, and the arrays are the definition's
 pub calls-theorem : (p : Pile) (ms : List Move) (rs : List (List ℕ)) (q : Pile) → Made p (renew ∷ ms) rs q
-    → ((said : List Progress) × AllMoves fresh ms said × (rs ≡ map written said)) × (q ≡ pile_of ms)
+    → ((said : List (Option PileReply)) × AllMoves fresh ms said × (rs ≡ map written said)) × (q ≡ pile_of ms)
 unfolding said_by moved_by moved
 calls-theorem p ms rs q d =
     let (a, b) = made-says p (renew ∷ ms) rs q d in ((said_by fresh_pile ms, moves-theorem ms, a), b)
@@ -160,7 +161,7 @@ module _ (ms : List Move) where
 
   pub check-theorem : (q : Pile) (numbers : List ℕ) → Done (pile_of ms) q Check numbers → Checks numbers
   unfolding answer_of
-  check-theorem q numbers d = check-written _ numbers d.replied (check_of (pile_of ms)).reply refl (said _ _ in_step)
+  check-theorem q numbers d = check_written _ numbers d.replied (check_of (pile_of ms)).reply refl (said _ _ in_step)
 
   -- So do sections of a check in steps, or they write "more" and leave the rows and the word
   abbrev pub GoesOn : ℕ → Pile → List ℕ → Type 0
@@ -174,7 +175,7 @@ module _ (ms : List Move) where
       go : (s : Stepped) → Do (pile_of ms) (position (pile_of ms) + n) s → q ≡ s.pile → numbers ≡ written s.progress
           → GoesOn n q numbers ⊎ Checks numbers
       go s (ends e) left told =
-          inr (check-written _ numbers (told ∙ ap (λ (x : Stepped). written x.progress) e) (check_of (anew (pile_of ms))).reply refl
+          inr (check_written _ numbers (told ∙ ap (λ (x : Stepped). written x.progress) e) (check_of (anew (pile_of ms))).reply refl
           (said _ _ (still _ _ in_step 0)))
       go s (rests e near before) left told =
           inl (told ∙ ap (λ (x : Stepped). written x.progress) e, left ∙ ap (λ (x : Stepped). x.pile) e)
@@ -199,7 +200,7 @@ module _ (ms : List Move) where
   pub passed-whole : passed (pile_of ms) ≡ true → NoneDented (book_of ms).layers
   passed-whole e = in_step.whole (sym state-theorem ∙ e)
 
-  pub passed-again : passed (pile_of ms) ≡ true → (answer_of (pile_of ms) Check).reply ≡ Fine
+  pub passed-again : passed (pile_of ms) ≡ true → (answer_of (pile_of ms) Check).reply ≡ Ok Fine
   unfolding answer_of
   passed-again e = done-checked (check_of (pile_of ms)).reply (said _ _ in_step) (passed-whole e)
 

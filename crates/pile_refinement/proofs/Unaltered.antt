@@ -1,5 +1,6 @@
 -- A refused call leaves every number of the arrays, whatever they held, unless it is a check of memory that says that the pile has passed.
 -- A refused step of a check sets the position to 0 besides.
+use Rattle.std.specs.Prelude.{Result, Ok, Err}
 use Prim.Native.Nat.{ℕ, zero, suc, ◌+◌}
 use mathlib.Core.Path.{◌≡◌, refl}
 use mathlib.Core.Bool.{Bool, true, false, cond}
@@ -8,18 +9,18 @@ use mathlib.Core.List.{List, [], ◌∷◌}
 use lib.Dec.{ltb}
 use Rattle.chart.specs.Limits.{side}
 use Rattle.chart.specs.Outline.{Outline}
-use Rattle.chart.specs.declared.Verdict.{Verdict}
-use Rattle.chart.specs.declared.Verdict.TheVariants.{Taken, Refused}
+use Rattle.chart.specs.declared.Refusal.{Refusal}
+use Rattle.chart.specs.declared.Taken.{Taken}
 use Rattle.verdict.specs.Verdict.{verdict_of}
 use Rattle.images.specs.Image.{is_image, held_in}
 use Rattle.sections.specs.Sections.{last_layer}
 use Rattle.pile_sections.specs.Sections.{dented_column, dented_row}
-use Rattle.pile_replies.specs.declared.PileReply.TheVariants.{Done}
+use Rattle.pile_replies.specs.declared.PileAnswer.TheVariants.{Done}
 use Rattle.pile_replies.specs.Replies.{pile_fields}
 use Rattle.pile_model.specs.Calls.{PileCall, Set, SetEmpty, Check, Query, Restore}
 use Rattle.pile_calls.specs.declared.Pile.{Pile}
 use Rattle.pile_calls.specs.declared.Piled.{Piled}
-use Rattle.pile_calls.specs.declared.Progress.TheVariants.{More, Replied}
+use Rattle.std.specs.declared.option.Option.TheVariants.{None, Some}
 use Rattle.pile_calls.specs.declared.Stepped.{Stepped}
 use Rattle.pile_calls.specs.Arrays.{layers_in, word, passed, position, with_state, passing, failing, set_as, set_of, empty_of, check_of}
 use Rattle.pile_calls.specs.Arrays.{restored_as, restore_of, answer_of}
@@ -46,10 +47,10 @@ fail-kept p = go (passed p) refl
     go true e = inr (refl, e)
     go false e = inl refl
 
-set-kept : (p : Pile) (l : ℕ) (o : Outline) (v : Verdict) → IfRefused (λ q. q ≡ p) (set_as p l o v)
+set-kept : (p : Pile) (l : ℕ) (o : Outline) (v : Result Taken Refusal) → IfRefused (λ q. q ≡ p) (set_as p l o v)
 unfolding set_as pile_fields
-set-kept p l o (Refused f) r = refl
-set-kept p l o (Taken n a) r = absurd (r refl)
+set-kept p l o (Err f) r = refl
+set-kept p l o (Ok t) r = absurd (r refl)
 
 restore-kept : (p : Pile) (l : ℕ) (o : Outline) (w : List ℕ) → IfRefused (λ q. q ≡ p) (restored_as p l o w)
 unfolding restored_as pile_fields
@@ -80,8 +81,8 @@ refused-steps (suc n) p r = go (clear_at (layers_in p) k) (ltb k 509) (refused-s
 
     said : Bool → Bool → Stepped
     said b d =
-        cond b (cond d (stepped More (with_state p (word p) (k + 1))) (stepped (Replied Done) (passing p)))
-        (stepped (Replied (dent_at k)) (ending p))
+        cond b (cond d (stepped None (with_state p (word p) (k + 1))) (stepped (Some (Ok Done)) (passing p)))
+        (stepped (Some (dent_at k)) (ending p))
 
     after : Bool → Bool → Stepped
     after b d = onward (steps_of n) (said b d).progress (said b d).pile

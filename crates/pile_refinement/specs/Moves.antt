@@ -1,12 +1,10 @@
 -- Lists of the calls on a pile that C makes, each on the arrays that the one before it left, and the model's replies to them (contract 12.7
 -- and 12.8).
-use Rattle.std.specs.Prelude.{ℕ, ◌≡◌, List, [], ◌∷◌}
-use Rattle.pile_replies.specs.declared.PileReply.{PileReply}
+use Rattle.std.specs.Prelude.{ℕ, ◌≡◌, List, [], ◌∷◌, Option, None, Some}
+use Rattle.pile_replies.specs.Replies.{PileReply}
 use Rattle.pile_model.specs.Calls.{PileCall, Check}
 use Rattle.pile_model.specs.Book.{PileBook, fresh, Answers, next}
 use Rattle.pile_calls.specs.declared.Pile.{Pile}
-use Rattle.pile_calls.specs.declared.Progress.{Progress}
-use Rattle.pile_calls.specs.declared.Progress.TheVariants.{More, Replied}
 use Rattle.pile_calls.specs.declared.Stepped.{Stepped}
 use Rattle.pile_calls.specs.Arrays.{answer_of, check_of, fresh_pile}
 use Rattle.pile_calls.specs.Steps.{stepped, steps_of}
@@ -20,7 +18,7 @@ replies_from p (c ∷ cs) = (answer_of p c).reply ∷ replies_from (answer_of p 
 
 -- What the whole check does, as a step that replies
 unfoldable pub whole : Pile → Stepped
-whole p = stepped (Replied (check_of p).reply) (check_of p).pile
+whole p = stepped (Some (check_of p).reply) (check_of p).pile
 
 -- ---- what C calls: the arrays are made a fresh pile, a call, or some sections of a check
 
@@ -39,10 +37,10 @@ moved_by p [] = p
 moved_by p (m ∷ ms) = moved_by (moved p m) ms
 
 -- What they reply, in turn. A fresh pile is no reply
-unfoldable pub said_by : Pile → List Move → List Progress
+unfoldable pub said_by : Pile → List Move → List (Option PileReply)
 said_by p [] = []
 said_by p (renew ∷ ms) = said_by fresh_pile ms
-said_by p (call c ∷ ms) = Replied (answer_of p c).reply ∷ said_by (answer_of p c).pile ms
+said_by p (call c ∷ ms) = Some (answer_of p c).reply ∷ said_by (answer_of p c).pile ms
 said_by p (steps n ∷ ms) = (steps_of n p).progress ∷ said_by (steps_of n p).pile ms
 
 -- Calls of the functions for C, one by one, from arrays p to arrays q, with the seven numbers that each wrote
@@ -56,21 +54,21 @@ pub data Made : Pile → List Move → List (List ℕ) → Pile → Type 0 where
 
 -- ---- in the model a step that replies is a check, and one that does not is nothing
 
-unfoldable pub AllMoves : PileBook → List Move → List Progress → Type 0
+unfoldable pub AllMoves : PileBook → List Move → List (Option PileReply) → Type 0
 AllMoves b [] [] = Unit {0}
 AllMoves b [] (r ∷ rs) = ⊥
 AllMoves b (renew ∷ ms) rs = AllMoves fresh ms rs
 AllMoves b (call c ∷ ms) [] = ⊥
-AllMoves b (call c ∷ ms) (More ∷ rs) = ⊥
-AllMoves b (call c ∷ ms) (Replied r ∷ rs) = Answers b c r × AllMoves (next b c r) ms rs
+AllMoves b (call c ∷ ms) (None ∷ rs) = ⊥
+AllMoves b (call c ∷ ms) (Some r ∷ rs) = Answers b c r × AllMoves (next b c r) ms rs
 AllMoves b (steps n ∷ ms) [] = ⊥
-AllMoves b (steps n ∷ ms) (More ∷ rs) = AllMoves b ms rs
-AllMoves b (steps n ∷ ms) (Replied r ∷ rs) = Answers b Check r × AllMoves (next b Check r) ms rs
+AllMoves b (steps n ∷ ms) (None ∷ rs) = AllMoves b ms rs
+AllMoves b (steps n ∷ ms) (Some r ∷ rs) = Answers b Check r × AllMoves (next b Check r) ms rs
 
 -- The model after them
-unfoldable pub next_step : PileBook → Progress → PileBook
-next_step b More = b
-next_step b (Replied r) = next b Check r
+unfoldable pub next_step : PileBook → Option PileReply → PileBook
+next_step b None = b
+next_step b (Some r) = next b Check r
 
 unfoldable pub book_by : PileBook → Pile → List Move → PileBook
 book_by b p [] = b

@@ -1,11 +1,11 @@
 -- The stores of a call into a pile's arrays, one number each, in the order in which the code makes them. A query may interrupt a call
 -- between any two (contract 12.8).
-use Rattle.std.specs.Prelude.{ℕ, zero, suc, ◌+◌, ◌*◌, ◌≡◌, cond, ◌⊎◌, List, [], ◌∷◌, get_or, set, ltb}
+use Rattle.std.specs.Prelude.{ℕ, zero, suc, ◌+◌, ◌*◌, ◌≡◌, cond, ◌⊎◌, List, [], ◌∷◌, get_or, set, ltb, Result, Ok, Err}
 use Rattle.chart.specs.Limits.{side}
 use Rattle.chart.specs.Outline.{Outline}
 use Rattle.chart.specs.declared.Point.{Point}
-use Rattle.chart.specs.declared.Verdict.{Verdict}
-use Rattle.chart.specs.declared.Verdict.TheVariants.{Taken, Refused}
+use Rattle.chart.specs.declared.Refusal.{Refusal}
+use Rattle.chart.specs.declared.Taken.{Taken}
 use Rattle.chart.specs.declared.Refusal.TheVariants.{NothingAtWork, Layer}
 use Rattle.verdict.specs.Verdict.{verdict_of}
 use Rattle.images.specs.Image.{is_image, held_in}
@@ -14,8 +14,7 @@ use Rattle.spans.specs.Spans.{no_spans, spans_of}
 use Rattle.span_list.specs.SpanList.{slot_bytes}
 use Rattle.sections.specs.Sections.{last_layer}
 use Rattle.pile_sections.specs.Sections.{dented_column, dented_row}
-use Rattle.pile_replies.specs.declared.PileReply.{PileReply}
-use Rattle.pile_replies.specs.declared.PileReply.TheVariants.{Refused as WasRefused}
+use Rattle.pile_replies.specs.Replies.{PileReply}
 use Rattle.pile_model.specs.Calls.{PileCall, Set, SetEmpty, Check, Query, Restore}
 use Rattle.pile_calls.specs.declared.Pile.{Pile}
 use Rattle.pile_calls.specs.Arrays.{arrays, layers_in, passed_word, passed, position as position_of, query_of}
@@ -53,9 +52,9 @@ bytes at xs i (suc n) rest = byte (at + i) (get_or xs i 0) ∷ bytes at xs (suc 
 unfoldable pub puts : ℕ → Spans → List Store
 puts l x = word 0 ∷ position 0 ∷ bytes (slot_bytes * l) x.first 0 side (bytes (slot_bytes * l + side) x.past 0 side [])
 
-unfoldable pub set_stores : ℕ → Outline → Verdict → List Store
-set_stores l o (Refused f) = []
-set_stores l o (Taken n a) = puts l (spans_of o)
+unfoldable pub set_stores : ℕ → Outline → Result Taken Refusal → List Store
+set_stores l o (Err f) = []
+set_stores l o (Ok t) = puts l (spans_of o)
 
 -- A restore makes the stores of the set or of the set empty that it is
 unfoldable pub restore_stores : ℕ → Outline → List ℕ → List Store
@@ -90,7 +89,7 @@ Throughout P p (s ∷ ss) = P p × Throughout P (stored p s) ss
 
 -- What a query replies of a pile that has not passed: 22, or 12
 abbrev pub not_yet : ℕ → PileReply
-not_yet l = cond (ltb last_layer l) (WasRefused Layer) (WasRefused NothingAtWork)
+not_yet l = cond (ltb last_layer l) (Err Layer) (Err NothingAtWork)
 
 -- At x every query gets the reply that it gets of p, or 12, or the reply that it gets of q
 abbrev pub Between : Pile → Pile → Pile → Type 0

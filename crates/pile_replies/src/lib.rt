@@ -4,30 +4,29 @@
 ghost use Rattle.std.specs.Prelude.{◌≡◌};
 ghost use Rattle.pile_replies.specs.Replies.{pile_fields};
 
-use chart::{Fields, Point, Refusal, reply};
+use chart::{Fields, Refusal, Taken, reply};
 
-// The reply of a call.
+// What a call answers. Its reply is this or a refusal.
 #[derive(Clone, Copy)]
-pub enum PileReply {
-    // A layer was set to empty, or a check passed.
+pub enum PileAnswer {
+    // A layer was set to empty, a check passed, or a layer was saved.
     Done,
     Inside,
     Outside,
-    // A set: the outline is taken. The count of edges, and the anchor.
-    Taken { edges: u16, anchor: Point },
-    Refused(Refusal),
+    // A set: the outline is taken.
+    Taken(Taken),
 }
 
-// Its fields.
+// A reply's fields. No `From` may stand here: both types are other crates'.
 #[tactic(auto, unfolding(crate::specs::Replies::pile_fields))]
-pub fn of_reply(r: PileReply) -> Fields
+pub fn of_reply(r: Result<PileAnswer, Refusal>) -> Fields
     ensures { result ≡ pile_fields r }
 {
     match r {
-        PileReply::Done => reply::worded(reply::NO_WORD),
-        PileReply::Inside => reply::worded(reply::INSIDE),
-        PileReply::Outside => reply::worded(reply::OUTSIDE),
-        PileReply::Taken { edges, anchor } => reply::accepted(reply::NO_WORD, edges, anchor),
-        PileReply::Refused(why) => reply::of_refusal(why),
+        Ok(PileAnswer::Done) => reply::worded(reply::NO_WORD),
+        Ok(PileAnswer::Inside) => reply::worded(reply::INSIDE),
+        Ok(PileAnswer::Outside) => reply::worded(reply::OUTSIDE),
+        Ok(PileAnswer::Taken(taken)) => reply::accepted(reply::NO_WORD, taken.edges, taken.anchor),
+        Err(why) => Fields::from(why),
     }
 }

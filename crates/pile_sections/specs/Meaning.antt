@@ -1,12 +1,13 @@
 -- What a check means, by the cells that the sections mark (contract 12.3 and 12.4).
-use Rattle.std.specs.Prelude.{ℕ, ◌<◌, Bool, List}
+use Rattle.std.specs.Prelude.{ℕ, ◌<◌, Bool, List, Ok, Err}
 use Rattle.chart.specs.Limits.{side}
 use Rattle.chart.specs.declared.Refusal.TheVariants.{Section}
+use Rattle.chart.specs.declared.SectionKind.TheVariants.{Column, Row}
 use Rattle.lattice.specs.Hull.{Convex}
 use Rattle.spans.specs.declared.Spans.{Spans}
 use Rattle.pile_sections.specs.Runs.{HasDent, column_runs, row_runs}
-use Rattle.pile_replies.specs.declared.PileReply.{PileReply}
-use Rattle.pile_replies.specs.declared.PileReply.TheVariants.{Done, Refused}
+use Rattle.pile_replies.specs.Replies.{PileReply}
+use Rattle.pile_replies.specs.declared.PileAnswer.TheVariants.{Done}
 
 -- ---- sections by their marked cells: `columns c` are those of the section at column c, `rows r` those of the section at row r
 
@@ -21,10 +22,10 @@ pub record AllConvex (columns rows : ℕ → ℕ → ℕ → Bool) : Type 0 wher
 
 -- The reply of a check: done if no section is dented, otherwise the first dented one, columns before rows
 pub data CheckedBy (columns rows : ℕ → ℕ → ℕ → Bool) : PileReply → Type 0 where
-  passes : ConvexBefore columns side → ConvexBefore rows side → CheckedBy columns rows Done
-  column : (c : ℕ) → c < side → HasDent (columns c) → ConvexBefore columns c → CheckedBy columns rows (Refused (Section 0 c))
+  passes : ConvexBefore columns side → ConvexBefore rows side → CheckedBy columns rows (Ok Done)
+  column : (c : ℕ) → c < side → HasDent (columns c) → ConvexBefore columns c → CheckedBy columns rows (Err (Section Column c))
   row : (r : ℕ) → r < side → ConvexBefore columns side → HasDent (rows r) → ConvexBefore rows r
-      → CheckedBy columns rows (Refused (Section 1 r))
+      → CheckedBy columns rows (Err (Section Row r))
 
 -- ---- layers as they are kept, whatever they hold
 

@@ -1,14 +1,12 @@
 -- A call on a pile as C makes it: from arrays p to arrays q, with a reply of seven numbers (contract 4 and 12.8). The equations say what
 -- every number is afterwards, whatever the arrays held.
-use Rattle.std.specs.Prelude.{ℕ, ◌≡◌, ◌↔◌, List}
+use Rattle.std.specs.Prelude.{ℕ, ◌≡◌, ◌↔◌, List, Option, None, Some}
 use Rattle.chart.specs.declared.Fields.{Fields}
 use Rattle.chart.specs.Fields.{worded, more, numbers_of, fields_of}
-use Rattle.pile_replies.specs.declared.PileReply.{PileReply}
+use Rattle.pile_replies.specs.Replies.{PileReply}
 use Rattle.pile_replies.specs.Replies.{pile_fields}
 use Rattle.pile_model.specs.Calls.{PileCall}
 use Rattle.pile_calls.specs.declared.Pile.{Pile}
-use Rattle.pile_calls.specs.declared.Progress.{Progress}
-use Rattle.pile_calls.specs.declared.Progress.TheVariants.{More, Replied}
 use Rattle.pile_calls.specs.Arrays.{answer_of}
 use Rattle.pile_calls.specs.Steps.{steps_of}
 use Rattle.pile_images.specs.Saved.{SavesAt}
@@ -18,9 +16,9 @@ pub record Done (p q : Pile) (c : PileCall) (numbers : List ℕ) : Type 0 where
   pub replied : numbers ≡ numbers_of (pile_fields (answer_of p c).reply)
 
 -- A step of a check: "more" while it goes on, else the reply of the whole check
-unfoldable pub progress_fields : Progress → Fields
-progress_fields More = worded more
-progress_fields (Replied r) = pile_fields r
+unfoldable pub progress_fields : Option PileReply → Fields
+progress_fields None = worded more
+progress_fields (Some r) = pile_fields r
 
 -- At most n sections. With n 0 it replies "more", and the arrays are unchanged
 pub record StepsDone (p q : Pile) (n : ℕ) (numbers : List ℕ) : Type 0 where

@@ -1,9 +1,10 @@
-// The calls on a pile as C makes them: each writes its reply as seven numbers (contract 4, 12.8 and 13.11).
+// The calls on a pile as C makes them: each writes its reply as seven numbers (contract 4, 12.8 and 13.11). The arrays are parameters of
+// their own, since the C interface names them one by one.
 #![tactic(auto)]
 
 ghost use Rattle.std.specs.Prelude.{◌≡◌};
 ghost use Rattle.chart.specs.Outline.{outline};
-ghost use Rattle.chart.specs.Fields.{numbers_of, fields_of};
+ghost use Rattle.chart.specs.Fields.{fields_of};
 ghost use Rattle.verdict.specs.Named.{CellNamed};
 ghost use Rattle.pile_sections.specs.Meaning.{CheckedRuns, NoDent};
 ghost use Rattle.pile_model.specs.Calls.{Set, SetEmpty, Check, Query, Restore};
@@ -11,30 +12,24 @@ ghost use Rattle.live_sections.specs.Layers.{layers_of};
 ghost use Rattle.pile_calls.specs.Arrays.{arrays};
 ghost use Rattle.pile_written.specs.Written.{progress_fields, Done, StepsDone, CheckWritten, SaveWritten};
 
-use chart::reply::NUMBERS as REPLY;
-use chart::{Fields, Point, reply};
-use pile_calls::{Progress, ROW_BYTES, STATE_NUMBERS};
-use pile_replies::of_reply;
+use chart::reply::{NUMBERS as REPLY, put};
+use chart::{Fields, Point, Refusal, reply};
+use pile_calls::{ROW_BYTES, STATE_NUMBERS};
+use pile_replies::{PileAnswer, of_reply};
 
-// The fields of what a step of a check replies.
+// The fields of what a step of a check replies. No `From` may stand here: both types are other crates'.
 #[tactic(auto, unfolding(crate::specs::Written::progress_fields))]
-pub fn of_progress(p: Progress) -> Fields
+pub fn of_progress(p: Option<Result<PileAnswer, Refusal>>) -> Fields
     ensures { result ≡ progress_fields p }
 {
     match p {
-        Progress::More => reply::worded(reply::MORE),
-        Progress::Replied(r) => of_reply(r),
+        None => reply::worded(reply::MORE),
+        Some(r) => of_reply(r),
     }
 }
 
-// Writes a reply's seven numbers.
-fn put(f: Fields, numbers: &mut [u16; REPLY])
-    ensures { numbers.new ≡ numbers_of f }
-{
-    reply::write(f, &mut numbers[..]);
-}
-
 // Sets a layer to an outline.
+#[tactic(auto, using(crate::proofs::WrittenLaws::done_by, crate::proofs::WrittenLaws::cell_written))]
 pub fn set(
     rows: &mut [u8; ROW_BYTES],
     state: &mut [u16; STATE_NUMBERS],
@@ -54,6 +49,7 @@ pub fn set(
 }
 
 // Sets a layer to empty.
+#[tactic(auto, using(crate::proofs::WrittenLaws::done_by))]
 pub fn set_empty(
     rows: &mut [u8; ROW_BYTES],
     state: &mut [u16; STATE_NUMBERS],
@@ -67,6 +63,7 @@ pub fn set_empty(
 }
 
 // Checks every section.
+#[tactic(auto, using(crate::proofs::WrittenLaws::done_by, crate::proofs::WrittenLaws::check_written))]
 pub fn check(rows: &[u8; ROW_BYTES], state: &mut [u16; STATE_NUMBERS], reply: &mut [u16; REPLY])
     ensures call { Done (arrays rows.now state.old) (arrays rows.now state.new)
         Check reply.new }
@@ -77,6 +74,7 @@ pub fn check(rows: &[u8; ROW_BYTES], state: &mut [u16; STATE_NUMBERS], reply: &m
 }
 
 // Some sections of a check: "more" while it goes on, else the reply of the whole check.
+#[tactic(auto, using(crate::proofs::WrittenLaws::steps_by))]
 pub fn check_steps(
     rows: &[u8; ROW_BYTES],
     state: &mut [u16; STATE_NUMBERS],
@@ -93,6 +91,7 @@ pub fn check_steps(
 }
 
 // Whether a layer has a cell.
+#[tactic(auto, using(crate::proofs::WrittenLaws::query_by))]
 pub fn query<'a>(
     rows: &'a [u8; ROW_BYTES],
     state: &'a [u16; STATE_NUMBERS],
@@ -114,6 +113,7 @@ pub fn save(rows: &[u8; ROW_BYTES], layer: u8, image: &mut [u8], reply: &mut [u1
 }
 
 // Sets a layer to what an image holds.
+#[tactic(auto, using(crate::proofs::WrittenLaws::done_by))]
 pub fn restore(
     rows: &mut [u8; ROW_BYTES],
     state: &mut [u16; STATE_NUMBERS],

@@ -1,16 +1,17 @@
 -- The order of integers by their positive and negative parts: what minima and maxima are at most, and machine tests against 0.
-use Prim.Native.Nat.{zero, suc, ◌-◌, ◌^◌, ◌<◌}
+use Prim.Native.Nat.{zero, suc, ◌-◌}
 use native.Mathlib.Omega.{arith}
 use mathlib.Core.Path.{◌≡◌, refl, ap, ◌∙◌}
 use mathlib.Core.Bool.{Bool, true, false, cond, ◌||◌}
 use lib.IntN.{ℤ, pos, negsuc, ◌-ℤ◌}
 use lib.Dec.{eqb}
-use lib.Signed.{mag, le_z, lt_z}
-use mir.Syntax.{w16, w64}
-use mir.Val.{SFits, to_z, of_z}
-use mir.ValLaws.{to_z-of_z}
+use lib.Signed.{le_z, lt_z}
+use Rattle.std.proofs.lemmas.Int.{ints}
+use Rattle.std.specs.Prelude.{int_lt, ◌↔◌}
+use Rattle.std.specs.Int.{int_min, int_max}
+use mir.Syntax.{w32}
+use mir.Val.{SFits, of_z}
 use borrow.Author.Tests.{ne_eqb, le-leb, lt-ltb}
-use Rattle.base.proofs.Sizes.{read_back}
 use Rattle.base.proofs.BelowLaws.{same_test}
 use Rattle.base.proofs.Differences.{is-self, is-minus, le_iff}
 use Rattle.base.proofs.IntegerOrder.{at-most-iff, not-at-most}
@@ -23,8 +24,8 @@ not-negative-machine (pos a) = le-leb 0 a (omega arith)
 not-negative-machine (negsuc a) = refl
 
 -- A difference is not negative exactly if the subtrahend is at most the minuend
-pub at-most-difference : (a b : ℤ) → le_z b a ≡ not_negative (a -ℤ b)
-at-most-difference a b =
+pub at_most_difference : (a b : ℤ) → le_z b a ≡ not_negative (a -ℤ b)
+at_most_difference a b =
     let iff = le_iff (is-self (pos 0)) (is-minus (is-self a) (is-self b)) in
     same_test (le_z b a) (le_z (pos 0) (a -ℤ b)) (at-most-iff b a) (λ e. omega (arith, iff.0 e), λ h. iff.1 (omega arith))
     ∙ not-negative-machine (a -ℤ b)
@@ -35,15 +36,11 @@ positive-machine (pos zero) = refl
 positive-machine (pos (suc n)) = lt-ltb 0 (suc n) (omega arith)
 positive-machine (negsuc n) = refl
 
-pub nil-machine : (a : ℤ) → SFits w64 a → eqb (of_z w64 a) 0 ≡ is_nil a
+pub nil-machine : (a : ℤ) → SFits w32 a → eqb (of_z w32 a) 0 ≡ is_nil a
 unfolding is_nil
 nil-machine (pos zero) f = refl
 nil-machine (pos (suc n)) f = ne_eqb (suc n) 0 (omega arith)
-nil-machine (negsuc n) f = ne_eqb (18446744073709551616 - suc n) 0 (omega (arith, f.sfits))
-
--- A 16-bit number widened to 64 bits keeps its value
-pub widened : {d z : ℤ} → SFits w16 d → mag z < 2 ^ 63 → z ≡ to_z w16 (of_z w16 d) → to_z w64 (of_z w64 z) ≡ d
-widened {d} {z} f ok e = read_back z ok ∙ e ∙ to_z-of_z w16 d f
+nil-machine (negsuc n) f = ne_eqb (4294967296 - suc n) 0 (omega (arith, f.sfits))
 
 le_trans : (a b c : ℤ) → le_z a b ≡ true → le_z b c ≡ true → le_z a c ≡ true
 le_trans a b c h k = (at-most-iff a c).1 (omega (arith, (at-most-iff a b).0 h, (at-most-iff b c).0 k))
@@ -85,3 +82,40 @@ max-at-least a b c = go (le_z a b) refl
     go : (t : Bool) → le_z a b ≡ t → le_z c (cond t b a) ≡ (le_z c a || le_z c b)
     go true e = or-second _ _ (λ h. le_trans c a b h e)
     go false e = or-first _ _ (λ h. le_trans c b a h (le_total a b e))
+
+-- The library's minimum and maximum are the definition's
+pub int-min-is : (a b : ℤ) → int_min a b ≡ minℤ a b
+unfolding minℤ
+int-min-is a b = go (le_z a b) refl
+  where
+    go : (t : Bool) → le_z a b ≡ t → cond (int_lt b a) b a ≡ cond t a b
+    go true e = grind (arith, ints)
+    go false e = grind (arith, ints)
+
+pub int-max-is : (a b : ℤ) → int_max a b ≡ maxℤ a b
+unfolding maxℤ
+int-max-is a b = go (le_z a b) refl
+  where
+    go : (t : Bool) → le_z a b ≡ t → cond (int_lt b a) a b ≡ cond t b a
+    go true e = grind (arith, ints)
+    go false e = grind (arith, ints)
+
+pub ruleset extremes = (int-min-is, int-max-is)
+
+-- A test against 0 is the definition's
+pub zero-is : (a : ℤ) → (a ≡ pos 0) ↔ (is_nil a ≡ true)
+unfolding is_nil
+zero-is (pos zero) = (λ e. refl, λ e. refl)
+zero-is (pos (suc n)) = (λ e. absurd (omega (arith, ints)), λ e. cc)
+zero-is (negsuc n) = (λ e. cc, λ e. cc)
+
+pub cross-is : (a b : ℤ) → lt_z a b ≡ positive (b -ℤ a)
+cross-is a b = go (lt_z a b) (lt_z (pos 0) (b -ℤ a)) refl refl ∙ positive-machine (b -ℤ a)
+  where
+    go : (s t : Bool) → lt_z a b ≡ s → lt_z (pos 0) (b -ℤ a) ≡ t → s ≡ t
+    go true true e f = refl
+    go true false e f = absurd (omega (arith, ints))
+    go false true e f = absurd (omega (arith, ints))
+    go false false e f = refl
+
+pub ruleset signs = (positive-machine, zero-is, cross-is)

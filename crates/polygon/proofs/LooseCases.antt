@@ -7,12 +7,13 @@ use lib.ListN.{length}
 use lib.Dec.{eqb, ltb}
 use lib.IntN.{ℤ}
 use borrow.Author.Tests.{ltb-false, lt-ltb, le-ltb}
+use Rattle.std.specs.Prelude.{Ok, Err}
 use Rattle.base.proofs.BelowLaws.{or-false-iff}
 use Rattle.chart.specs.Limits.{longest_list}
 use Rattle.chart.specs.declared.Point.{Point}
 use Rattle.convexity.specs.Inside.{inside_edges}
 use Rattle.chart.specs.declared.Refusal.TheVariants.{EdgeList, Cell, Directions}
-use Rattle.chart.specs.declared.Position.TheVariants.{Inside, Outside, Refused}
+use Rattle.chart.specs.declared.Position.TheVariants.{Inside, Outside}
 use Rattle.directions.specs.Increasing.{bad_directions}
 use Rattle.polygon.specs.Loose.{inside_list, bad_list, bad_cell, bad_directions_list, loose_of}
 
@@ -40,25 +41,25 @@ module _ (a : Point) (es : List ℤ) (x : Point) where
   unfolding inside_list
   inside-short h = rw (le-ltb longest_list (length es) h)
 
-  pub loose-list : bad_list es ≡ true → Refused (EdgeList 0) ≡ loose_of a es x
+  pub loose-list : bad_list es ≡ true → Err (EdgeList 0) ≡ loose_of a es x
   unfolding loose_of
   loose-list e = rw e
 
-  pub loose-anchor : bad_list es ≡ false → bad_cell a ≡ true → Refused Cell ≡ loose_of a es x
+  pub loose-anchor : bad_list es ≡ false → bad_cell a ≡ true → Err Cell ≡ loose_of a es x
   unfolding loose_of
   loose-anchor e h = rw (e, h)
 
-  pub loose-cell : bad_list es ≡ false → bad_cell a ≡ false → bad_cell x ≡ true → Refused Cell ≡ loose_of a es x
+  pub loose-cell : bad_list es ≡ false → bad_cell a ≡ false → bad_cell x ≡ true → Err Cell ≡ loose_of a es x
   unfolding loose_of
   loose-cell e h k = rw (e, h, k)
 
   pub loose-turning : bad_list es ≡ false → bad_cell a ≡ false → bad_cell x ≡ false → bad_directions es ≡ true
-      → Refused Directions ≡ loose_of a es x
+      → Err Directions ≡ loose_of a es x
   unfolding loose_of
   loose-turning e h k t = rw (e, h, k, t)
 
   pub loose-edges :
       bad_list es ≡ false → bad_cell a ≡ false → bad_cell x ≡ false → bad_directions es ≡ false
-      → loose_of a es x ≡ cond (inside_edges a es x) Inside Outside
+      → loose_of a es x ≡ cond (inside_edges a es x) (Ok Inside) (Ok Outside)
   unfolding loose_of
   loose-edges e h k t = rw (e, h, k, t)

@@ -7,9 +7,10 @@ use mathlib.Core.Bool.{Bool, true, false, true≢false, cond, ◌||◌}
 use mathlib.Core.List.{List}
 use lib.Dec.{lit<}
 use lib.IntN.{ℤ}
+use Rattle.std.specs.Prelude.{Result, Ok, Err}
 use Rattle.chart.specs.declared.Point.{Point}
 use Rattle.chart.specs.declared.Position.{Position}
-use Rattle.chart.specs.declared.Position.TheVariants.{Inside, Outside, Refused}
+use Rattle.chart.specs.declared.Position.TheVariants.{Inside, Outside}
 use Rattle.chart.specs.declared.Refusal.{Refusal}
 use Rattle.chart.specs.declared.Refusal.TheVariants.{EdgeList, Cell, Directions}
 use Rattle.chart.specs.Fields.{position_fields, refusal_fields}
@@ -34,7 +35,7 @@ module _ (a : Point) (es : List ℤ) (x : Point) where
   named :
       (l c t i : Bool) → bad_directions es ≡ t → inside_edges a es x ≡ i
       → HullNamed a es x (position_fields
-      (cond l (Refused (EdgeList 0)) (cond c (Refused Cell) (cond t (Refused Directions) (cond i Inside Outside)))))
+      (cond l (Err (EdgeList 0)) (cond c (Err Cell) (cond t (Err Directions) (cond i (Ok Inside) (Ok Outside))))))
   named true c t i p q = unnamed (EdgeList 0) refl (lit< tt)
   named false true t i p q = unnamed Cell refl (lit< tt)
   named false false true i p q = unnamed Directions refl (lit< tt)
@@ -54,20 +55,20 @@ module _ (a : Point) (es : List ℤ) (x : Point) where
   hull-named = named (bad_list es) (bad_cell a || bad_cell x) (bad_directions es) (inside_edges a es x) refl refl
 
   -- The same for whatever equals that answer
-  pub answer-named : (p : Position) → p ≡ loose_of a es x → (p ≡ loose_of a es x) × HullNamed a es x (position_fields p)
+  pub answer-named : (p : Result Position Refusal) → p ≡ loose_of a es x → (p ≡ loose_of a es x) × HullNamed a es x (position_fields p)
   answer-named p e = (e, rw e hull-named)
 
 -- A loose query is refused by 16 only if the list does not pass it
-turned-back : (a : Point) (es : List ℤ) (x : Point) → loose_of a es x ≡ Refused Directions → bad_directions es ≡ true
+turned-back : (a : Point) (es : List ℤ) (x : Point) → loose_of a es x ≡ Err Directions → bad_directions es ≡ true
 unfolding loose_of
 turned-back a es x = go (bad_list es) (bad_cell a || bad_cell x) (bad_directions es) (inside_edges a es x)
   where
-    number : Position → ℕ
+    number : Result Position Refusal → ℕ
     number p = (position_fields p).number
 
     go :
-        (l c t i : Bool) → cond l (Refused (EdgeList 0)) (cond c (Refused Cell) (cond t (Refused Directions) (cond i Inside Outside)))
-        ≡ Refused Directions
+        (l c t i : Bool) → cond l (Err (EdgeList 0)) (cond c (Err Cell) (cond t (Err Directions) (cond i (Ok Inside) (Ok Outside))))
+        ≡ Err Directions
         → t ≡ true
     go true c t i e = absurd (omega (arith, ap number e))
     go false true t i e = absurd (omega (arith, ap number e))
@@ -77,5 +78,5 @@ turned-back a es x = go (bad_list es) (bad_cell a || bad_cell x) (bad_directions
 
 -- So it is never refused by 16 for the edges of a taken outline
 pub taken-passed : (o : Outline) → Reaches o → dent_piece (border o) ≡ 4 → (a x : Point)
-    → loose_of a (edges (border o)) x ≡ Refused Directions → ⊥
+    → loose_of a (edges (border o)) x ≡ Err Directions → ⊥
 taken-passed o h smooth a x e = true≢false (sym (turned-back a (edges (border o)) x e) ∙ taken-passes o h smooth)

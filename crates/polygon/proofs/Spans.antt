@@ -19,8 +19,10 @@ use mir.Syntax.{w16}
 use mir.Val.{SFits}
 use Rattle.edge_walk.specs.declared.Corner.{Corner}
 use Rattle.edge_walk.specs.parts.Walk.{started, stepped}
-use Rattle.edge_walk.proofs.Loop.{edge_at, next_edge, no_edge}
-use Rattle.edge_walk.proofs.Sizes.{After, after-step}
+use Rattle.edge_walk.proofs.Loop.{Chunk, next_edge, no_edge}
+use Rattle.edge_walk.proofs.Sizes.{After, after-start, after-step}
+use Rattle.polygon.specs.Loose.{inside_list}
+use Rattle.polygon.proofs.LooseCases.{inside-short}
 use Rattle.polygon.proofs.Integers.{min-at-most, max-at-least}
 
 -- ---- one coordinate
@@ -100,39 +102,47 @@ inside-from-anchor a es x =
 
 -- ---- one iteration of the loop
 
--- The loop has passed the edges before i of es, and no side value was negative
-pub record Walked (es : List ℤ) (c r : ℤ) (k₀ : Corner) (p₀ q₀ : Span) (k : Corner) (p q : Span) (i : ℕ) : Type 0 where
+-- The loop over the edges es of an anchor a has passed those before i, and no side value at the cell x was negative
+pub record Walked (a : Point) (es : List ℤ) (x : Point) (k : Corner) (p q : Span) (i : ℕ) : Type 0 where
   pub short : length es ≤ longest_list
   pub passed : i ≤ length es
   pub near : After i k
-  pub left : inside_from (pairs es) k₀ p₀ q₀ c r ≡ inside_from (pairs (drop i es)) k p q c r
+  pub left : inside_list a es x ≡ inside_from (pairs (drop i es)) k p q (pos x.col) (pos x.row)
 
-module _ {es : List ℤ} {c r : ℤ} {k₀ : Corner} {p₀ q₀ : Span} {k : Corner} {p q : Span} {i : ℕ} (w : Walked es c r k₀ p₀ q₀ k p q i) where
-  -- The side value of the next edge
-  abbrev pub next_side : ℤ
-  next_side = side_value (edge_at es i).0 (edge_at es i).1 k.col k.row c r
+pub walked-start : (a : Point) (es : List ℤ) (x : Point) → a.col < 65536 → a.row < 65536 → length es ≤ longest_list
+    → Walked a es x (started a) (begun (pos a.col)) (begun (pos a.row)) 0
+walked-start a es x m n h =
+    record {
+      short = h;
+      passed = omega arith;
+      near = after-start a m n 0;
+      left = inside-short a es x h ∙ inside-from-anchor a es x;
+    }
 
-  module _ (h : i + 1 < length es) where
+module _ {a : Point} {es : List ℤ} {x : Point} {k : Corner} {p q : Span} {i : ℕ} (w : Walked a es x k p q i) where
+  -- With the edge at i
+  module _ {dx dy : ℤ} (e : Chunk es dx dy i) where
     next-from :
-        let k' = stepped k (edge_at es i).0 (edge_at es i).1 in
-        inside_from (pairs es) k₀ p₀ q₀ c r
-        ≡ (not_negative next_side && inside_from (pairs (drop (i + 2) es)) k' (met p k'.col) (met q k'.row) c r)
+        let k' = stepped k dx dy in
+        inside_list a es x
+        ≡ (not_negative (side_value dx dy k.col k.row (pos x.col) (pos x.row)) && inside_from (pairs (drop (i + 2) es)) k' (met p k'.col) (met q k'.row) (pos x.col) (pos x.row))
     unfolding inside_from
-    next-from = w.left ∙ rw (next_edge es i h)
+    next-from = w.left ∙ rw (next_edge es i e.inside, e.across, e.up)
 
     -- One more edge
     pub walked-edge :
-        SFits w16 (edge_at es i).0 → SFits w16 (edge_at es i).1 → not_negative next_side ≡ true
-        → let k' = stepped k (edge_at es i).0 (edge_at es i).1 in
-        Walked es c r k₀ p₀ q₀ k' (met p k'.col) (met q k'.row) (i + 2)
-    walked-edge fx fy e =
-        record { short = w.short; passed = omega arith; near = after-step w.near fx fy (omega arith); left = next-from ∙ rw e }
+        SFits w16 dx → SFits w16 dy → not_negative (side_value dx dy k.col k.row (pos x.col) (pos x.row)) ≡ true
+        → let k' = stepped k dx dy in
+        Walked a es x k' (met p k'.col) (met q k'.row) (i + 2)
+    walked-edge fx fy on =
+        let inside = e.inside in
+        record { short = w.short; passed = omega arith; near = after-step w.near fx fy (omega arith); left = next-from ∙ rw on }
 
     -- A side value is negative: the cell is outside
-    pub walked-outside : not_negative next_side ≡ false → inside_from (pairs es) k₀ p₀ q₀ c r ≡ false
-    walked-outside e = next-from ∙ rw e
+    pub walked-outside : not_negative (side_value dx dy k.col k.row (pos x.col) (pos x.row)) ≡ false → inside_list a es x ≡ false
+    walked-outside off = next-from ∙ rw off
 
   -- No edges remain: the extremes decide
-  pub walked_end : length es ≤ i + 1 → inside_from (pairs es) k₀ p₀ q₀ c r ≡ (spans p c && spans q r)
+  pub walked_end : length es ≤ i + 1 → inside_list a es x ≡ (spans p (pos x.col) && spans q (pos x.row))
   unfolding inside_from
   walked_end h = w.left ∙ rw (no_edge es i h)

@@ -1,5 +1,5 @@
 -- The loose query: refusals 10, 11 and 16, then inside or outside (contract 6.2).
-use Rattle.std.specs.Prelude.{◌%◌, ◌≡◌, ◌↔◌, Bool, false, cond, ◌||◌, List, length, leb, ltb, eqb, ℤ}
+use Rattle.std.specs.Prelude.{◌%◌, ◌≡◌, ◌↔◌, Bool, false, cond, ◌||◌, List, length, leb, ltb, eqb, ℤ, Result, Ok, Err}
 use Rattle.chart.specs.Limits.{side, longest_list}
 use Rattle.chart.specs.declared.Point.{Point}
 use Rattle.chart.specs.declared.Fields.{Fields}
@@ -7,9 +7,10 @@ use Rattle.chart.specs.Fields.{inside, outside}
 use Rattle.convexity.specs.Inside.{inside_edges}
 use Rattle.directions.specs.Increasing.{bad_directions}
 use Rattle.directions.specs.CornerHull.{CornersHold}
+use Rattle.chart.specs.declared.Refusal.{Refusal}
 use Rattle.chart.specs.declared.Refusal.TheVariants.{EdgeList, Cell, Directions}
 use Rattle.chart.specs.declared.Position.{Position}
-use Rattle.chart.specs.declared.Position.TheVariants.{Inside, Outside, Refused}
+use Rattle.chart.specs.declared.Position.TheVariants.{Inside, Outside}
 
 -- Whether a cell is inside, for every list: no cell is inside a list that is too long
 unfoldable pub inside_list : Point → List ℤ → Point → Bool
@@ -27,12 +28,12 @@ bad_cell x = leb side x.col || leb side x.row
 unfoldable pub bad_directions_list : List ℤ → Bool
 bad_directions_list es = ltb longest_list (length es) || bad_directions es
 
-unfoldable pub loose_of : Point → List ℤ → Point → Position
+unfoldable pub loose_of : Point → List ℤ → Point → Result Position Refusal
 loose_of a es x =
-    cond (bad_list es) (Refused (EdgeList 0))
-    (cond (bad_cell a || bad_cell x) (Refused Cell)
-    (cond (bad_directions es) (Refused Directions)
-    (cond (inside_edges a es x) Inside Outside)))
+    cond (bad_list es) (Err (EdgeList 0))
+    (cond (bad_cell a || bad_cell x) (Err Cell)
+    (cond (bad_directions es) (Err Directions)
+    (cond (inside_edges a es x) (Ok Inside) (Ok Outside))))
 
 -- What the word of a reply says. A query that is not refused replies "inside" exactly when the hull of the corner cells holds the cell,
 -- and otherwise "outside"; a refusal has neither word

@@ -21,8 +21,11 @@ use Rattle.rounding.proofs.Order.{le-value, lt-value}
 use Rattle.chart.specs.declared.Point.{Point}
 use Rattle.convexity.specs.Inside.{not_negative}
 use Rattle.calls.specs.declared.Reading.{Reading}
+use Rattle.std.specs.Prelude.{Result, Ok, Err}
+use Rattle.chart.specs.declared.Refusal.{Refusal}
+use Rattle.chart.specs.declared.Refusal.TheVariants.{Cell}
 use Rattle.readings.specs.declared.Located.{Located}
-use Rattle.readings.specs.declared.Located.TheVariants.{Inside, Outside, Undecided, Refused}
+use Rattle.readings.specs.declared.Located.TheVariants.{Inside, Outside, Undecided}
 use Rattle.readings.specs.Sides.{PlacedEdge, edges_along, exact_side, computed_side}
 use Rattle.readings.specs.Located.{Held, bad_reading, within_extremes, exactly_inside, far, near, sided, stays_on, located_of, reading_of}
 use Rattle.readings.specs.Claims.{Open, Answers}
@@ -39,15 +42,15 @@ patterns-held x y = record { angle = of_bits-fits binary32 x; load = of_bits-fit
 -- ---- the answer by its tests
 
 -- 11; the walk stays on the chart; between the extremes; far outside some edge; near some edge
-answer : Bool → Bool → Bool → Bool → Bool → Located
-answer b s w f n = cond b Refused (cond s (cond (w && not f) (cond n Undecided Inside) Outside) Outside)
+answer : Bool → Bool → Bool → Bool → Bool → Result Located Refusal
+answer b s w f n = cond b (Err Cell) (Ok (cond s (cond (w && not f) (cond n Undecided Inside) Outside) Outside))
 
 -- What an answer says about the tests
-abbrev Says : Located → Bool → Bool → Bool → Bool → Bool → Type 0
-Says Inside b s w f n = (b ≡ false) × (s ≡ true) × (w ≡ true) × (f ≡ false) × (n ≡ false)
-Says Outside b s w f n = (b ≡ false) × ((s ≡ false) ⊎ ((w ≡ false) ⊎ (f ≡ true)))
-Says Undecided b s w f n = (b ≡ false) × (s ≡ true) × (w ≡ true) × (f ≡ false) × (n ≡ true)
-Says Refused b s w f n = b ≡ true
+abbrev Says : Result Located Refusal → Bool → Bool → Bool → Bool → Bool → Type 0
+Says (Ok Inside) b s w f n = (b ≡ false) × (s ≡ true) × (w ≡ true) × (f ≡ false) × (n ≡ false)
+Says (Ok Outside) b s w f n = (b ≡ false) × ((s ≡ false) ⊎ ((w ≡ false) ⊎ (f ≡ true)))
+Says (Ok Undecided) b s w f n = (b ≡ false) × (s ≡ true) × (w ≡ true) × (f ≡ false) × (n ≡ true)
+Says (Err why) b s w f n = b ≡ true
 
 says : (b s w f n : Bool) → Says (answer b s w f n) b s w f n
 unfolding answer
@@ -59,23 +62,26 @@ says false true true false true = (refl, refl, refl, refl, refl)
 says false true true false false = (refl, refl, refl, refl, refl)
 
 module _ (a : Point) (es : List ℤ) (r : Reading) where
-  abbrev Told : Located → Type 0
+  abbrev Told : Result Located Refusal → Type 0
   Told l = Says l (bad_reading r) (stays_on a es) (within_extremes a es r) (some_pass (far r) (edges_along a es)) (some_pass (near r) (edges_along a es))
 
-  told : (l : Located) → located_of a es r ≡ l → Told l
+  told : (l : Result Located Refusal) → located_of a es r ≡ l → Told l
   unfolding answer located_of sided
   told l e =
       subst Told e (says (bad_reading r) (stays_on a es) (within_extremes a es r) (some_pass (far r) (edges_along a es))
       (some_pass (near r) (edges_along a es)))
 
   -- 11 is given exactly for a bad number
-  pub refused-iff : (located_of a es r ≡ Refused) ↔ (bad_reading r ≡ true)
+  pub refused-bad : {why : Refusal} → located_of a es r ≡ Err why → bad_reading r ≡ true
+  refused-bad {why} e = told (Err why) e
+
+  pub refused-iff : (located_of a es r ≡ Err Cell) ↔ (bad_reading r ≡ true)
   unfolding located_of
-  refused-iff = (told Refused, λ b. rw b)
+  refused-iff = (refused-bad, λ b. rw b)
 
   -- Undecided only if the walk stays on the chart
-  pub undecided-stays : located_of a es r ≡ Undecided → stays_on a es ≡ true
-  undecided-stays e = let (good, on, within, none_far, some) = told Undecided e in on
+  pub undecided-stays : located_of a es r ≡ Ok Undecided → stays_on a es ≡ true
+  undecided-stays e = let (good, on, within, none_far, some) = told (Ok Undecided) e in on
 
 -- ---- a computed side value and the exact one
 
@@ -127,10 +133,10 @@ computed_fits r e = sub-fits binary32 _ _
 -- ---- "inside" and "outside" agree with exactly inside
 
 module _ (a : Point) (es : List ℤ) (r : Reading) (held : Held r) where
-  pub inside-exact : located_of a es r ≡ Inside → exactly_inside a es r ≡ true
+  pub inside-exact : located_of a es r ≡ Ok Inside → exactly_inside a es r ≡ true
   unfolding exactly_inside
   inside-exact e =
-      let (good, on, within, none_far, none-near) = told a es r Inside e in
+      let (good, on, within, none_far, none-near) = told a es r (Ok Inside) e in
       (and-eq-true_iff (within_extremes a es r) (all_pass (λ e. not_negative (exact_side r e)) (edges_along a es))).1 (
         within,
         all_of (λ e. not_negative (exact_side r e)) (edges_along a es) (λ e m.
@@ -139,10 +145,10 @@ module _ (a : Point) (es : List ℤ) (r : Reading) (held : Held r) where
       )
 
   module _ (on : stays_on a es ≡ true) where
-    pub outside-exact : located_of a es r ≡ Outside → exactly_inside a es r ≡ false
+    pub outside-exact : located_of a es r ≡ Ok Outside → exactly_inside a es r ≡ false
     unfolding exactly_inside
     outside-exact e =
-        let (good, why) = told a es r Outside e in
+        let (good, why) = told a es r (Ok Outside) e in
         not-held (exactly_inside a es r) (λ i.
         let (within, sides) = (and-eq-true_iff (within_extremes a es r) (all_pass (λ e. not_negative (exact_side r e)) (edges_along a es))).0 i in
         ⊎_elim (λ off. true≢false (sym on ∙ off))
@@ -157,11 +163,11 @@ module _ (a : Point) (es : List ℤ) (r : Reading) (held : Held r) where
 
     module _ (good : bad_reading r ≡ false) where
       -- It lies within the extremes, every computed side value is above -1/64, and some is below 1/64
-      pub undecided-iff : (located_of a es r ≡ Undecided) ↔ Open a es r
+      pub undecided-iff : (located_of a es r ≡ Ok Undecided) ↔ Open a es r
       unfolding located_of sided
       undecided-iff = (
         λ e.
-            let (b, s, within, none_far, some) = told a es r Undecided e in
+            let (b, s, within, none_far, some) = told a es r (Ok Undecided) e in
             let (edge, met, n) = any_found (near r) (edges_along a es) some in
             record {
               within = within;
@@ -182,7 +188,7 @@ module _ (a : Point) (es : List ℤ) (r : Reading) (held : Held r) where
 
       -- The answer is decided if all exact values are at least 1/32
       pub decided-inside : ((e : PlacedEdge) → Memᴰ e (edges_along a es) → le_z (pos (2 ^ 144)) (exact_side r e) ≡ true)
-          → located_of a es r ≡ Undecided → ⊥
+          → located_of a es r ≡ Ok Undecided → ⊥
       decided-inside h e =
           let o = undecided-iff.0 e in
           true≢false (sym (inner-beyond sixty_fourth (value binary32 (computed_side r o.edge)) (exact_side r o.edge)
@@ -190,14 +196,14 @@ module _ (a : Point) (es : List ℤ) (r : Reading) (held : Held r) where
 
       -- It is decided too if one is at most -1/32
       pub decided-outside : (e : PlacedEdge) → Memᴰ e (edges_along a es) → le_z (exact_side r e) (neg_ℤ (pos (2 ^ 144))) ≡ true
-          → located_of a es r ≡ Undecided → ⊥
+          → located_of a es r ≡ Ok Undecided → ⊥
       decided-outside e m h u =
           true≢false (sym (outer-far sixty_fourth (value binary32 (computed_side r e)) (exact_side r e)
           (computed-close a es r held good on e m).near h) ∙ (undecided-iff.0 u).none_far e m)
 
       -- On an edge of what is exactly inside it is always undecided
       pub undecided-on-edge : exactly_inside a es r ≡ true → (e : PlacedEdge) → Memᴰ e (edges_along a es) → exact_side r e ≡ pos 0
-          → located_of a es r ≡ Undecided
+          → located_of a es r ≡ Ok Undecided
       unfolding exactly_inside
       undecided-on-edge i e m z =
           let (within, sides) = (and-eq-true_iff (within_extremes a es r) (all_pass (λ e. not_negative (exact_side r e)) (edges_along a es))).0 i in

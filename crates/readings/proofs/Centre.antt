@@ -17,6 +17,7 @@ use Rattle.convexity.specs.Edges.{Edge, pairs}
 use Rattle.convexity.specs.Inside.{not_negative, side_value, none_outside, within, inside_at, inside_edges}
 use Rattle.polygon.proofs.Integers.{not-negative-machine}
 use Rattle.calls.specs.declared.Reading.{Reading}
+use Rattle.std.specs.Prelude.{Ok}
 use Rattle.readings.specs.declared.Located.TheVariants.{Inside, Outside}
 use Rattle.readings.specs.Sides.{edges_from, exact_side}
 use Rattle.readings.specs.Located.{Held, between, within_extremes, exactly_inside, stays_on, located_of}
@@ -75,8 +76,8 @@ module _ (r : Reading) (x : Point) (at : Centred r x) where
   centre-exact a es = simp (at.col, at.row, units-le, sides-centre (pairs es) (pos a.col) (pos a.row))
 
   module _ (held : Held r) (a : Point) (es : List ℤ) where
-    pub centre-inside : located_of a es r ≡ Inside → inside_edges a es x ≡ true
+    pub centre-inside : located_of a es r ≡ Ok Inside → inside_edges a es x ≡ true
     centre-inside e = sym (centre-exact a es) ∙ inside-exact a es r held e
 
-    pub centre-outside : stays_on a es ≡ true → located_of a es r ≡ Outside → inside_edges a es x ≡ false
+    pub centre-outside : stays_on a es ≡ true → located_of a es r ≡ Ok Outside → inside_edges a es x ≡ false
     centre-outside on e = sym (centre-exact a es) ∙ outside-exact a es r held on e

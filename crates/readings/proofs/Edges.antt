@@ -1,5 +1,5 @@
 -- The edges of a walk that stays on the chart are small: both ends are cells, so an edge is at most as long as the chart.
-use Prim.Native.Nat.{◌+◌, ◌≤◌}
+use Prim.Native.Nat.{◌≤◌}
 use native.Mathlib.Omega.{arith}
 use mathlib.Core.Path.{◌≡◌, sym, ap, subst}
 use mathlib.Core.Logic.{⊎_elim}

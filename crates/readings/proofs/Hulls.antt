@@ -4,7 +4,7 @@ use native.Mathlib.Omega.{arith}
 use mathlib.Core.Path.{◌≡◌, refl, sym, ap, ◌∙◌}
 use mathlib.Core.Bool.{true, false, and-eq-true_iff}
 use mathlib.Core.List.Memᴰ
-use mathlib.Core.List.{List, [], ◌∷◌}
+use mathlib.Core.List.{[], ◌∷◌}
 use lib.IntN.{ℤ, pos, neg_ℤ, ◌+ℤ◌, ◌-ℤ◌, ◌*ℤ◌, *ℤ_comm}
 use lib.Signed.{le_z}
 use lib.Ieee.{Format, binary32}
@@ -17,6 +17,7 @@ use Rattle.chart.specs.declared.Point.{Point}
 use Rattle.convexity.specs.Edges.{pairs}
 use Rattle.convexity.specs.Inside.{not_negative, side_value, col_steps, row_steps, lowest_met, highest_met}
 use Rattle.calls.specs.declared.Reading.{Reading}
+use Rattle.std.specs.Prelude.{Ok}
 use Rattle.readings.specs.declared.Located.TheVariants.{Inside, Outside, Undecided}
 use Rattle.readings.specs.Sides.{PlacedEdge, edges_from, exact_side}
 use Rattle.readings.specs.Located.{Held, bad_reading, between, within_extremes, exactly_inside, sided, stays_on, located_of}
@@ -34,11 +35,11 @@ le-both a b h k =
 
 module _ (a : Point) (r : Reading) (good : bad_reading r ≡ false) (on : stays_on a [] ≡ true) where
   -- At its centre the reading is inside, and everywhere else outside
-  pub lone-inside : Centred r a → located_of a [] r ≡ Inside
+  pub lone-inside : Centred r a → located_of a [] r ≡ Ok Inside
   unfolding located_of sided within_extremes between pairs col_steps row_steps lowest_met highest_met edges_from some_pass
   lone-inside at = simp (good, on, at.col, at.row, le-self)
 
-  pub lone-outside : (Centred r a → ⊥) → located_of a [] r ≡ Outside
+  pub lone-outside : (Centred r a → ⊥) → located_of a [] r ≡ Ok Outside
   unfolding located_of sided within_extremes between pairs col_steps row_steps lowest_met highest_met edges_from some_pass
   lone-outside off =
       let out : within_extremes a [] r ≡ false = not-held (within_extremes a [] r) (λ w.
@@ -78,7 +79,7 @@ pub flat-undecided :
     (a : Point) (dx dy : ℤ) (r : Reading) → Held r → bad_reading r ≡ false →
     let es = dx ∷ dy ∷ neg_ℤ dx ∷ neg_ℤ dy ∷ [] in
     let e : PlacedEdge = record { cols = dx; rows = dy; col = pos a.col; row = pos a.row } in
-    stays_on a es ≡ true → within_extremes a es r ≡ true → exact_side r e ≡ pos 0 → located_of a es r ≡ Undecided
+    stays_on a es ≡ true → within_extremes a es r ≡ true → exact_side r e ≡ pos 0 → located_of a es r ≡ Ok Undecided
 unfolding exactly_inside pairs edges_from all_pass exact_side not_negative
 flat-undecided a dx dy r held good on within level =
     let X = value binary32 r.angle in

@@ -20,6 +20,7 @@ use Rattle.convexity.proofs.Theorem.{edges-answer}
 use Rattle.directions.specs.CornerHull.{is_on_chart}
 use Rattle.directions.proofs.OnChart.{number-on}
 use Rattle.calls.specs.declared.Reading.{Reading}
+use Rattle.std.specs.Prelude.{Ok}
 use Rattle.readings.specs.declared.Located.TheVariants.{Inside, Outside}
 use Rattle.readings.specs.Sides.{edges_from}
 use Rattle.readings.specs.Located.{Held, bad_reading, ends_on, stays_on, located_of}
@@ -62,8 +63,8 @@ module _ (o : Outline) (straight : NoBackStep o) where
   module _ (smooth : dent_piece o ≡ 4) (x : Point) (c : x.col < side) (r : x.row < side) (p : Reading) (held : Held p) (at : Centred p x)
     where
       -- At a cell's centre "inside" means that the cell is enclosed, and "outside" that it is not
-      pub centre-enclosed : located_of o.start (edges o) p ≡ Inside → encloses o x.col x.row ≡ true
+      pub centre-enclosed : located_of o.start (edges o) p ≡ Ok Inside → encloses o x.col x.row ≡ true
       centre-enclosed e = sym (edges-answer o straight smooth x c r) ∙ centre-inside p x at held o.start (edges o) e
 
-      pub centre-open : located_of o.start (edges o) p ≡ Outside → encloses o x.col x.row ≡ false
+      pub centre-open : located_of o.start (edges o) p ≡ Ok Outside → encloses o x.col x.row ≡ false
       centre-open e = sym (edges-answer o straight smooth x c r) ∙ centre-outside p x at held o.start (edges o) edges-stay e

@@ -9,6 +9,10 @@ use mathlib.Core.List.{List, [], ◌∷◌}
 use lib.ListN.{length, drop}
 use lib.IntN.{ℤ, pos, negsuc, ◌+ℤ◌}
 use lib.Signed.{le_z}
+use lib.Dec.{leb, ltb}
+use native.Mathlib.Decide.{dec_le}
+use borrow.Author.Tests.{le-leb, lt-leb, lt-ltb, le-ltb}
+use Rattle.std.specs.Int.{int_min, int_max}
 use lib.Ieee.{Float, binary32}
 use mir.Syntax.{w16, w32}
 use mir.Val.{SFits}
@@ -23,19 +27,20 @@ use Rattle.convexity.specs.Inside.{minℤ, maxℤ, col_steps, row_steps}
 use Rattle.directions.specs.CornerHull.{chart_number, is_on_chart}
 use Rattle.directions.proofs.OnChart.{on-parts}
 use Rattle.edge_walk.specs.declared.Corner.{Corner}
-use Rattle.edge_walk.proofs.Loop.{edge_at, next_edge, no_edge}
+use Rattle.edge_walk.proofs.Loop.{Chunk, next_edge, no_edge}
 use Rattle.edge_walk.proofs.Sizes.{Between, After, after-start, after-step, after-fits}
 use Rattle.polygon.proofs.Integers.{min-at-most, max-at-least}
 use Rattle.polygon.proofs.Spans.{meets, lowest-meets, highest-meets}
 use Rattle.calls.specs.declared.Reading.{Reading}
+use Rattle.std.specs.Prelude.{Option, Some, None, Result, Ok, Err}
+use Rattle.chart.specs.declared.Refusal.{Refusal}
+use Rattle.chart.specs.declared.Refusal.TheVariants.{Cell}
 use Rattle.readings.specs.declared.Located.{Located}
-use Rattle.readings.specs.declared.Located.TheVariants.{Inside, Outside, Undecided, Refused}
+use Rattle.readings.specs.declared.Located.TheVariants.{Inside, Outside, Undecided}
 use Rattle.readings.specs.declared.walk.Met.{Met}
 use Rattle.readings.specs.declared.walk.Walk.{Walk}
-use Rattle.readings.specs.declared.walk.Passed.{Passed}
-use Rattle.readings.specs.declared.walk.Passed.TheVariants.{Out, On}
 use Rattle.readings.specs.Sides.{edges_from}
-use Rattle.readings.specs.Located.{bad_reading, between, within_extremes, far, near, sided, ends_on, stays_on, located_of}
+use Rattle.readings.specs.Located.{bad_number, bad_reading, between, within_extremes, far, near, sided, ends_on, stays_on, located_of}
 use Rattle.readings.proofs.Numbers.{cell-of, cell-size}
 use Rattle.readings.specs.parts.Walk.{Reached, Tame, alone, met, arrived, begun, edge_of, moved, passed, spanned, settled}
 
@@ -98,6 +103,27 @@ max-at-most a b c = go (le_z a b) refl
     go true e = and_second _ _ (λ h. le_trans a b c e h)
     go false e = and_first _ _ (λ h. le_trans b a c (le_total a b e) h)
 
+-- The library's minimum and maximum are these
+turned : (x y : ℤ) (a b : ℕ) → cond (ltb b a) x y ≡ cond (leb a b) y x
+turned x y a b = elim (dec_le a b) [
+  | yes l ↦ rw (le-leb a b l, le-ltb b a l)
+  | no l ↦ rw (lt-leb a b (omega arith), lt-ltb b a (omega arith))
+]
+
+pub least-is : (a b : ℤ) → int_min a b ≡ minℤ a b
+unfolding minℤ
+least-is (pos a) (pos b) = turned (pos b) (pos a) a b
+least-is (pos a) (negsuc b) = refl
+least-is (negsuc a) (pos b) = refl
+least-is (negsuc a) (negsuc b) = turned (negsuc b) (negsuc a) b a
+
+pub most-is : (a b : ℤ) → int_max a b ≡ maxℤ a b
+unfolding maxℤ
+most-is (pos a) (pos b) = turned (pos a) (pos b) a b
+most-is (pos a) (negsuc b) = refl
+most-is (negsuc a) (pos b) = refl
+most-is (negsuc a) (negsuc b) = turned (negsuc a) (negsuc b) b a
+
 -- ---- one coordinate: the numbers met so far, and those that the steps from x lead to
 
 -- The test passes for all of the numbers that steps from x lead to
@@ -139,9 +165,9 @@ between-alone ds x v = rw (lowest-meets (under v) (λ a b. min-under a b v) ds x
 -- ---- both coordinates
 
 -- The answer of the walk for the remaining edges
-abbrev after : Passed → (Walk → Located) → Located
-after Out f = Outside
-after (On w) f = f w
+abbrev after : Option Walk → (Walk → Located) → Located
+after None f = Outside
+after (Some w) f = f w
 
 unfoldable pub from : List Edge → Walk → Reading → Located
 from [] w r = settled w r
@@ -162,7 +188,7 @@ whole es w r =
 -- One more edge: its tests join those of the rest
 one_more :
     (f b g m n k : Bool) (w : Walk) (F : Walk → Located) → F w ≡ answer b g ((m || n) || k)
-    → after (cond f Out (On w)) F ≡ answer b (f || g) (m || (n || k))
+    → after (cond f None (Some w)) F ≡ answer b (f || g) (m || (n || k))
 one_more true true g m n k w F h = refl
 one_more true false g m n k w F h = refl
 one_more false b g m n k w F h = rw or_assoc at h
@@ -233,8 +259,12 @@ parted : (s w f n : Bool) → answer (s && w) f n ≡ cond s (answer w f n) Outs
 parted true w f n = refl
 parted false w f n = refl
 
+-- The same answer is the same result
+pub ok : {l m : Located} → l ≡ m → ◌≡◌ {A = Result Located Refusal} (Ok l) (Ok m)
+ok e i = Ok (e i)
+
 -- The walk from an anchor locates a reading that is not refused
-pub walk-locates : (a : Point) (es : List ℤ) (r : Reading) → bad_reading r ≡ false → from (pairs es) (begun a) r ≡ located_of a es r
+pub walk-locates : (a : Point) (es : List ℤ) (r : Reading) → bad_reading r ≡ false → Ok (from (pairs es) (begun a) r) ≡ located_of a es r
 unfolding begun whole spanned_from located_of sided within_extremes
 walk-locates a es r good =
     let ds = pairs es in
@@ -248,13 +278,18 @@ walk-locates a es r good =
     let q = between_from (alone y) (row_steps ds) y r.load in
     let mid : answer ((s && p) && (t && q)) f n ≡ cond (s && t) (answer (p && q) f n) Outside =
     ap (λ (b : Bool). answer b f n) (swap s p t q) ∙ parted (s && t) (p && q) f n in
-    let end : located_of a es r ≡ cond (s && t) (answer (p && q) f n) Outside =
+    let end : located_of a es r ≡ Ok (cond (s && t) (answer (p && q) f n) Outside) =
     rw (good, sym (stays a es), between-alone (col_steps ds) x r.angle, between-alone (row_steps ds) y r.load) refl in
-    from-whole ds (begun a) r ∙ mid ∙ sym end
+    ok (from-whole ds (begun a) r ∙ mid) ∙ sym end
 
-pub located-bad : (a : Point) (es : List ℤ) (r : Reading) → bad_reading r ≡ true → Refused ≡ located_of a es r
+pub located-bad : (a : Point) (es : List ℤ) (r : Reading) → bad_reading r ≡ true → Err Cell ≡ located_of a es r
 unfolding located_of
 located-bad a es r b = rw b
+
+-- 11, by both numbers
+pub bad-both : (r : Reading) {a b : Bool} → a ≡ bad_number r.angle → b ≡ bad_number r.load → (a || b) ≡ bad_reading r
+unfolding bad_reading
+bad-both r e f = ap₂ ◌||◌ e f
 
 -- ---- an iteration of the loop
 
@@ -301,16 +336,16 @@ sized-step {k} r fx fy s =
     }
 
 -- The same of a walk that goes on
-abbrev SizedOn : ℕ → Passed → Type 0
-SizedOn k Out = Unit {0}
-SizedOn k (On w) = Sized k w
+abbrev SizedOn : ℕ → Option Walk → Type 0
+SizedOn k None = Unit {0}
+SizedOn k (Some w) = Sized k w
 
-sized_on : {k : ℕ} {w w' : Walk} {dx dy : ℤ} (r : Reading) → SFits w16 dx → SFits w16 dy → Sized k w → passed w dx dy r ≡ On w'
+sized_on : {k : ℕ} {w w' : Walk} {dx dy : ℤ} (r : Reading) → SFits w16 dx → SFits w16 dy → Sized k w → passed w dx dy r ≡ Some w'
     → Sized (k + 1) w'
 unfolding passed
 sized_on {k} {w} {w'} {dx} {dy} r fx fy s e = subst (SizedOn (k + 1)) e (go (far r (edge_of w dx dy)))
   where
-    go : (f : Bool) → SizedOn (k + 1) (cond f Out (On (moved w dx dy r)))
+    go : (f : Bool) → SizedOn (k + 1) (cond f None (Some (moved w dx dy r)))
     go true = tt
     go false = sized-step r fx fy s
 
@@ -396,15 +431,15 @@ kept_step w dx dy ds r s =
     let both = (and-eq-true_iff (is_on_chart x y) (all_pass ends_on (edges_from ds x y))).0 s.rest in
     record { exactly = exactly-step w dx dy r both.0 s.exactly; rest = both.1 }
 
-abbrev KeptOn : List Edge → Passed → Type 0
-KeptOn ds Out = Unit {0}
-KeptOn ds (On w) = Kept ds w
+abbrev KeptOn : List Edge → Option Walk → Type 0
+KeptOn ds None = Unit {0}
+KeptOn ds (Some w) = Kept ds w
 
-kept_on : (w w' : Walk) (dx dy : ℤ) (ds : List Edge) (r : Reading) → Kept ((dx, dy) ∷ ds) w → passed w dx dy r ≡ On w' → Kept ds w'
+kept_on : (w w' : Walk) (dx dy : ℤ) (ds : List Edge) (r : Reading) → Kept ((dx, dy) ∷ ds) w → passed w dx dy r ≡ Some w' → Kept ds w'
 unfolding passed
 kept_on w w' dx dy ds r s e = subst (KeptOn ds) e (go (far r (edge_of w dx dy)))
   where
-    go : (f : Bool) → KeptOn ds (cond f Out (On (moved w dx dy r)))
+    go : (f : Bool) → KeptOn ds (cond f None (Some (moved w dx dy r)))
     go true = tt
     go false = kept_step w dx dy ds r s
 
@@ -450,35 +485,39 @@ walked_start es r a tame c d = record { passed = omega arith; small = small; lef
     small = ⊎_elim (λ l. inl (l, sized-start a c d)) (λ p. inr (p.0, kept-start a es p.1)) tame
 
 module _ {es : List ℤ} {r : Reading} {w₀ w : Walk} {i : ℕ} (h : Walked es r w₀ w i) where
-  -- The walk at the end of the next edge
-  abbrev pub next : Passed
-  next = passed w (edge_at es (2 * i)).0 (edge_at es (2 * i)).1 r
-
   -- Its numbers are exactly floats
   pub walked-exactly : Exactly w
   walked-exactly = small-exactly es w i h.passed h.small
 
-  module _ (more : 2 * i + 1 < length es) where
+  module _ {dx dy : ℤ} (edge : Chunk es dx dy (2 * i)) where
+    -- The walk at the end of the next edge
+    abbrev pub next : Option Walk
+    next = passed w dx dy r
+
+    edge-here : pairs (drop (2 * i) es) ≡ (dx, dy) ∷ pairs (drop (2 * i + 2) es)
+    edge-here = next_edge es (2 * i) edge.inside ∙ rw (edge.across, edge.up)
+
     walked_next : from (pairs es) w₀ r ≡ after next (λ w'. from (pairs (drop (2 * i + 2) es)) w' r)
     unfolding from
-    walked_next = h.left ∙ rw (next_edge es (2 * i) more)
+    walked_next = h.left ∙ rw edge-here
 
     -- One more edge
     pub walked-edge :
-        {w' : Walk} → SFits w16 (edge_at es (2 * i)).0 → SFits w16 (edge_at es (2 * i)).1 → next ≡ On w' → Walked es r w₀ w' (i + 1)
+        {w' : Walk} → SFits w16 dx → SFits w16 dy → next ≡ Some w' → Walked es r w₀ w' (i + 1)
     walked-edge {w'} fx fy e =
         let twice : 2 * (i + 1) ≡ 2 * i + 2 = omega arith in
+        let inside = edge.inside in
         record {
           passed = omega arith;
           small =
               ⊎_elim (λ p. inl (p.0, sized_on r fx fy p.1 e))
-              (λ p. inr (p.0, rw twice (kept_on w w' _ _ _ r (rw (next_edge es (2 * i) more) at p.1) e)))
+              (λ p. inr (p.0, rw twice (kept_on w w' _ _ _ r (rw edge-here at p.1) e)))
               h.small;
           left = rw twice (rw e at walked_next);
         }
 
     -- The walk is out
-    pub walked-out : next ≡ Out → from (pairs es) w₀ r ≡ Outside
+    pub walked-out : next ≡ None → from (pairs es) w₀ r ≡ Outside
     walked-out e = rw e at walked_next
 
   -- No edge is left

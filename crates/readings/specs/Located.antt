@@ -1,5 +1,5 @@
 -- Where a reading lies (contract 3.20, 3.21 and 5.2): exactly inside, and the answer from computed side values.
-use Rattle.std.specs.Prelude.{ℕ, ◌-◌, Bool, true, false, not, cond, ◌&&◌, ◌||◌, List, ℤ, pos, negsuc, ◌+ℤ◌, T, Float}
+use Rattle.std.specs.Prelude.{Result, Ok, Err, ℕ, ◌-◌, Bool, true, false, not, cond, ◌&&◌, ◌||◌, List, ℤ, pos, negsuc, ◌+ℤ◌, T, Float}
 use Rattle.std.specs.Int.Signed.{le_z}
 use Rattle.std.specs.Float.{nan, inf, fin, binary32}
 use Rattle.std.specs.Float.Ieee.{fits, le, lt, of_bits}
@@ -7,12 +7,14 @@ use Rattle.base.specs.Each.{all_pass, some_pass}
 use Rattle.rounding.specs.Units.{value, in_units}
 use Rattle.chart.specs.Limits.{side}
 use Rattle.chart.specs.declared.Point.{Point}
+use Rattle.chart.specs.declared.Refusal.{Refusal}
+use Rattle.chart.specs.declared.Refusal.TheVariants.{Cell}
 use Rattle.convexity.specs.Edges.{pairs}
 use Rattle.convexity.specs.Inside.{not_negative, col_steps, row_steps, lowest_met, highest_met}
 use Rattle.directions.specs.CornerHull.{is_on_chart}
 use Rattle.calls.specs.declared.Reading.{Reading}
 use Rattle.readings.specs.declared.Located.{Located}
-use Rattle.readings.specs.declared.Located.TheVariants.{Inside, Outside, Undecided, Refused}
+use Rattle.readings.specs.declared.Located.TheVariants.{Inside, Outside, Undecided}
 use Rattle.readings.specs.Sides.{PlacedEdge, edges_along, exact_side, computed_side}
 
 -- Both numbers are 32-bit floats
@@ -67,8 +69,8 @@ unfoldable pub stays_on : Point → List ℤ → Bool
 stays_on a es = is_on_chart (pos a.col) (pos a.row) && all_pass ends_on (edges_along a es)
 
 -- The answer for every anchor, list and pair of floats. If the walk leaves the chart, as no outline's at work does, it is outside
-unfoldable pub located_of : Point → List ℤ → Reading → Located
-located_of a es r = cond (bad_reading r) Refused (cond (stays_on a es) (sided a es r) Outside)
+unfoldable pub located_of : Point → List ℤ → Reading → Result Located Refusal
+located_of a es r = cond (bad_reading r) (Err Cell) (Ok (cond (stays_on a es) (sided a es r) Outside))
 
 -- The reading of two bit patterns. Every NaN pattern becomes the same NaN
 unfoldable pub reading_of : ℕ → ℕ → Reading

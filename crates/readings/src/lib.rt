@@ -8,22 +8,20 @@ ghost use Rattle.readings.specs.Located.{bad_number, located_of, reading_of};
 ghost use Rattle.readings.specs.Replies.{located_reply};
 ghost use Rattle.readings.specs.parts.Walk.{Tame};
 
-use calls::{Reading, Reply};
+use calls::{Answer, Reading};
 use chart::{Point, Refusal, SIDE};
-use walk::Passed;
 
 mod walk;
 
 // The last column and the last row.
 const LAST: u16 = SIDE - 1;
 
-// Where a reading lies. 11 is its only refusal: `Refused` has no other to name, and `reply` says which it is.
+// Where a reading lies.
 #[derive(Clone, Copy)]
 pub enum Located {
     Inside,
     Outside,
     Undecided,
-    Refused,
 }
 
 // 11, of one number: NaN, infinite, below 0 or above 254.
@@ -33,38 +31,34 @@ fn bad_number(x: f32) -> bool
     !((0.0 <= x) & (x <= LAST as f32))
 }
 
-// Where a reading lies in the polygon of an anchor and a list of edges. There are at most 100 of them, or they stay on the chart.
-pub fn locate(anchor: Point, edges: &[i16], reading: Reading) -> Located
+// 11, or where a reading lies in the polygon of an anchor and a list of edges. There are at most 100 of them, or they stay on the chart.
+pub fn locate(anchor: Point, edges: &[i16], reading: Reading) -> Result<Located, Refusal>
     requires { Tame anchor edges.now }
     ensures { result ≡ located_of anchor edges.now reading }
 {
     if bad_number(reading.angle) | bad_number(reading.load) {
-        return Located::Refused;
+        return Err(Refusal::Cell);
     }
     let mut at = walk::begin(anchor);
-    let count = (edges.len() / 2) as u32;
-    let mut i: u32 = 0;
-    while i < count {
-        let k = 2 * (i as usize);
-        let Passed::On(next) = walk::pass(at, edges[k], edges[k + 1], reading) else {
-            return Located::Outside;
+    let (list, _) = edges.as_chunks::<2>();
+    for &[dx, dy] in list {
+        let Some(next) = walk::pass(at, dx, dy, reading) else {
+            return Ok(Located::Outside);
         };
         at = next;
-        i += 1;
     }
-    walk::settle(at, reading)
+    Ok(walk::settle(at, reading))
 }
 
 // The call's reply.
 #[tactic(auto, unfolding(crate::specs::Replies::located_reply))]
-pub fn reply(located: Located) -> Reply
+pub fn reply(located: Result<Located, Refusal>) -> Result<Answer, Refusal>
     ensures { result ≡ located_reply located }
 {
-    match located {
-        Located::Inside => Reply::Inside,
-        Located::Outside => Reply::Outside,
-        Located::Undecided => Reply::Undecided,
-        Located::Refused => Reply::Refused(Refusal::Cell),
+    match located? {
+        Located::Inside => Ok(Answer::Inside),
+        Located::Outside => Ok(Answer::Outside),
+        Located::Undecided => Ok(Answer::Undecided),
     }
 }
 
@@ -78,7 +72,8 @@ fn number(bits: u32) -> f32
     f32::from_bits(bits)
 }
 
-// The reading of two bit patterns.
+// The reading of two bit patterns. It is no `From`, as `Reading` is the type of another crate.
+#[tactic(auto, unfolding(crate::specs::Located::reading_of))]
 pub fn from_bits(angle: u32, load: u32) -> Reading
     ensures { result ≡ reading_of angle load }
 {

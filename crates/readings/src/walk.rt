@@ -1,6 +1,5 @@
 // The walk along a polygon's edges that locates a reading.
 ghost use Rattle.std.specs.Prelude.{◌≡◌, false};
-ghost use Rattle.convexity.specs.Inside.{minℤ, maxℤ};
 ghost use Rattle.readings.specs.Sides.{computed_side};
 ghost use Rattle.readings.specs.Located.{bad_number, bad_reading};
 ghost use Rattle.readings.specs.parts.Walk.{Reached, met, arrived, begun, passed, spanned, settled};
@@ -29,33 +28,13 @@ pub(crate) struct Walk {
     near: bool,
 }
 
-// The walk after one more edge, or out: the reading is far outside that edge.
-#[derive(Clone, Copy)]
-pub(crate) enum Passed {
-    Out,
-    On(Walk),
-}
-
-// The lower and the higher of two numbers.
-fn lower(a: i32, b: i32) -> i32
-    ensures { result ≡ minℤ a b }
-{
-    if a <= b { a } else { b }
-}
-
-fn higher(a: i32, b: i32) -> i32
-    ensures { result ≡ maxℤ a b }
-{
-    if a <= b { b } else { a }
-}
-
 // Adds one more number.
 fn meet(m: Met, n: i32) -> Met
     ensures { result ≡ met m n }
 {
     Met {
-        least: lower(m.least, n),
-        most: higher(m.most, n),
+        least: m.least.min(n),
+        most: m.most.max(n),
     }
 }
 
@@ -70,11 +49,12 @@ fn side(dx: i16, dy: i16, at: Corner, r: Reading) -> f32
 }
 
 // The walk one corner cell further.
+#[tactic(auto, unfolding(crate::specs::parts::Walk::arrived))]
 fn arrive(w: Walk, at: Corner, near: bool) -> Walk
     ensures { result ≡ arrived w at near }
 {
     Walk {
-        at: at,
+        at,
         cols: meet(w.cols, at.col),
         rows: meet(w.rows, at.row),
         near: w.near | near,
@@ -82,12 +62,13 @@ fn arrive(w: Walk, at: Corner, near: bool) -> Walk
 }
 
 // The walk at its start.
+#[tactic(auto, unfolding(crate::specs::parts::Walk::begun))]
 pub(crate) fn begin(anchor: Point) -> Walk
     ensures { result ≡ begun anchor }
 {
     let at = edge_walk::start(anchor);
     Walk {
-        at: at,
+        at,
         cols: Met {
             least: at.col,
             most: at.col,
@@ -100,8 +81,8 @@ pub(crate) fn begin(anchor: Point) -> Walk
     }
 }
 
-// The walk one edge further. Most readings are near no edge, so one comparison comes first.
-pub(crate) fn pass(w: Walk, dx: i16, dy: i16, r: Reading) -> Passed
+// The walk one edge further, or none: the reading is far outside that edge. Most readings are near no edge, so one comparison comes first.
+pub(crate) fn pass(w: Walk, dx: i16, dy: i16, r: Reading) -> Option<Walk>
     requires { Reached w.at.col × Reached w.at.row }
     ensures { result ≡ passed w dx dy r }
 {
@@ -109,11 +90,11 @@ pub(crate) fn pass(w: Walk, dx: i16, dy: i16, r: Reading) -> Passed
     let next = edge_walk::further(w.at, dx, dy);
     if v < SIXTY_FOURTH {
         if v <= -SIXTY_FOURTH {
-            return Passed::Out;
+            return None;
         }
-        return Passed::On(arrive(w, next, true));
+        return Some(arrive(w, next, true));
     }
-    Passed::On(arrive(w, next, false))
+    Some(arrive(w, next, false))
 }
 
 // Whether the numbers met are on the chart, and x lies between them.
@@ -121,21 +102,11 @@ fn within(m: Met, x: f32) -> bool
     requires { Reached m.least × Reached m.most × (bad_number x ≡ false) }
     ensures { result ≡ spanned m x }
 {
-    let least = m.least;
-    let most = m.most;
-    if !(0 <= least) {
-        return false;
-    }
-    if !(most <= LAST as i32) {
-        return false;
-    }
-    if !((least as f32) <= x) {
-        return false;
-    }
-    x <= (most as f32)
+    (0 <= m.least) & (m.most <= i32::from(LAST)) & ((m.least as f32) <= x) & (x <= (m.most as f32))
 }
 
 // The answer at the end of the walk.
+#[tactic(auto, unfolding(crate::specs::parts::Walk::settled))]
 pub(crate) fn settle(w: Walk, r: Reading) -> Located
     requires { Reached w.cols.least × Reached w.cols.most × (Reached w.rows.least × Reached w.rows.most)
         × (bad_reading r ≡ false) }

@@ -11,10 +11,9 @@ use lib.Seq.{drop-drop, paste, length-paste, take-paste, drop-paste}
 use borrow.Author.Tests.{not-true, not-false}
 use Rattle.chart.specs.Fields.{numbers_of}
 use Rattle.calls.specs.declared.Call.{Call}
-use Rattle.calls.specs.declared.Reply.{Reply}
-use Rattle.calls.specs.Replies.{reply_fields}
-use Rattle.wire.specs.declared.Decoded.{Decoded}
-use Rattle.wire.specs.declared.Decoded.TheVariants.{Call as OfCall, Nothing}
+use Rattle.calls.specs.Replies.{Reply, reply_fields}
+use Rattle.wire.specs.Wire.{Decoded}
+use Rattle.std.specs.Prelude.{Some, None}
 use Rattle.wire.specs.Wire.{call_width, reply_width, decoded}
 use Rattle.holder_memory.specs.Layout.{Holder}
 use Rattle.holder_answers.specs.Arrays.{answer_of}
@@ -34,7 +33,7 @@ module _ (h : Holder) (n : ℕ) (s l : List ℕ) where
   list_from-none e = rw e
 
   -- The first bytes are not a call
-  calls-none : decoded (take call_width s) ≡ Nothing → calls_from n s ≡ []
+  calls-none : decoded (take call_width s) ≡ None → calls_from n s ≡ []
   unfolding calls_from followed
   calls-none e = go n
     where
@@ -43,7 +42,7 @@ module _ (h : Holder) (n : ℕ) (s l : List ℕ) where
       go (suc m) = rw e
 
   -- The first bytes are this call
-  module _ (x : Call) (e : decoded (take call_width s) ≡ OfCall x) where
+  module _ (x : Call) (e : decoded (take call_width s) ≡ Some x) where
     calls-some : calls_from (suc n) s ≡ x ∷ calls_from n (drop call_width s)
     unfolding calls_from followed
     calls-some = rw e
@@ -73,8 +72,8 @@ calls-few zero s = omega arith
 calls-few (suc n) s = go (decoded (take call_width s)) (calls-few n (drop call_width s))
   where
     go : (d : Decoded) → length (calls_from n (drop call_width s)) ≤ n → length (followed d (calls_from n (drop call_width s))) ≤ suc n
-    go (OfCall x) few = omega arith
-    go Nothing few = omega arith
+    go (Some x) few = omega arith
+    go None few = omega arith
 
 pub calls_read-room : (s : List ℕ) (m : ℕ) → reply_width * length (calls_read s m) ≤ m
 unfolding calls_read
@@ -86,15 +85,15 @@ calls_read-bytes s m = omega (arith, calls-few (min (length s / call_width) (m /
 
 -- ---- whether a call was answered
 
-unanswered : (d : Decoded) → false ≡ is_call d → d ≡ Nothing
+unanswered : (d : Decoded) → false ≡ is_call d → d ≡ None
 unfolding is_call
-unanswered Nothing e = refl
-unanswered (OfCall x) e = absurd (true≢false (sym e))
+unanswered None e = refl
+unanswered (Some x) e = absurd (true≢false (sym e))
 
-answered : (d : Decoded) → true ≡ is_call d → (x : Call) × (d ≡ OfCall x)
+answered : (d : Decoded) → true ≡ is_call d → (x : Call) × (d ≡ Some x)
 unfolding is_call
-answered Nothing e = absurd (true≢false e)
-answered (OfCall x) e = (x, refl)
+answered None e = absurd (true≢false e)
+answered (Some x) e = (x, refl)
 
 -- ---- the loop
 
@@ -153,7 +152,7 @@ module _ (script buffer : List ℕ) (end : ℕ) (h : Holder) (done : ℕ) (list 
     room = omega (arith, st.numbers)
 
     -- For bytes that are a call
-    module _ (x : Call) (e : decoded (take call_width s) ≡ OfCall x) where
+    module _ (x : Call) (e : decoded (take call_width s) ≡ Some x) where
       abbrev n : List ℕ
       n = numbers_of (reply_fields (answer_of h x).reply)
 
@@ -201,7 +200,7 @@ module _ (script buffer : List ℕ) (end : ℕ) (h : Holder) (done : ℕ) (list 
       stops-at-none off = calls-none h (end - done) s l (sym d-is ∙ unanswered d (sym (not-true b off) ∙ t.done))
 
       -- A call: the loop continues with the next holder
-      by_call : (x : Call) → d ≡ OfCall x → Underway script buffer end g (done + 1) (paste list (reply_width * done) reply reply_width)
+      by_call : (x : Call) → d ≡ Some x → Underway script buffer end g (done + 1) (paste list (reply_width * done) reply reply_width)
       unfolding next_holder reply_by
       by_call x q =
           let r : reply ≡ numbers_of (reply_fields (answer_of h x).reply) = t.replied ∙ rw q in

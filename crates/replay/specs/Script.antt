@@ -2,17 +2,16 @@
 use Rattle.std.specs.Prelude.{ℕ, zero, suc, ◌*◌, ◌/◌, min, List, [], ◌∷◌, ◌++◌, length, take, drop}
 use Rattle.chart.specs.Fields.{numbers_of}
 use Rattle.calls.specs.declared.Call.{Call}
-use Rattle.calls.specs.declared.Reply.{Reply}
-use Rattle.calls.specs.Replies.{reply_fields}
+use Rattle.calls.specs.Replies.{Reply, reply_fields}
 use Rattle.holder_model.specs.Book.{replies}
-use Rattle.wire.specs.declared.Decoded.{Decoded}
-use Rattle.wire.specs.declared.Decoded.TheVariants.{Call as OfCall, Nothing}
+use Rattle.wire.specs.Wire.{Decoded}
+use Rattle.std.specs.Prelude.{Some, None}
 use Rattle.wire.specs.Wire.{call_width, reply_width, decoded}
 
 -- A call and the calls after it. If there is no call, none come after
 unfoldable pub followed : Decoded → List Call → List Call
-followed (OfCall x) cs = x ∷ cs
-followed Nothing cs = []
+followed (Some x) cs = x ∷ cs
+followed None cs = []
 
 -- The first n calls of a script, up to the first bytes that are not a call
 unfoldable pub calls_from : ℕ → List ℕ → List Call

@@ -25,8 +25,8 @@ ghost use Rattle.frames.specs.Frame.{framed_fields, frame_after, unframed_fields
 ghost use Rattle.replay.specs.Script.{calls_read, replies_after};
 
 use border_model::written::of_traced;
-use chart::Point;
-use chart::reply::{NUMBERS, of_comparison, of_position, of_verdict, put};
+use chart::reply::{NUMBERS, put};
+use chart::{Fields, Point};
 use completion_call::written::of_completed;
 use witness::written::of_witnessed;
 
@@ -56,7 +56,7 @@ pub extern "C" fn rq_test(
     ensures cell { CellNamed (outline (at col row) letters.now) (fields_of reply.new) }
 {
     let verdict = outline::test(Point { col, row }, letters, edges);
-    put(of_verdict(verdict), reply);
+    put(Fields::from(verdict), reply);
 }
 
 // Whether a cell lies inside an anchor and edges.
@@ -78,7 +78,7 @@ pub extern "C" fn rq_loose_query(
         row: anchor_row,
     };
     let position = polygon::loose_query(anchor, edges, Point { col, row });
-    put(of_position(position), reply);
+    put(Fields::from(position), reply);
 }
 
 // Where a reading lies among an anchor and edges.
@@ -154,7 +154,7 @@ pub extern "C" fn rq_compare(
         row: anchor_row_2,
     };
     let comparison = comparison::relate(first, edges_1, second, edges_2);
-    put(of_comparison(comparison), reply);
+    put(Fields::from(comparison), reply);
 }
 
 // Finds the lowest missing cell of an outline. Three enclosed cells whose triangle has it stand first in the buffer, two numbers each.

@@ -22,28 +22,16 @@ const LEFT: u16 = 65535;
 
 const DOWN: u16 = 65535 - WIDTH + 1;
 
-// A 16-bit number as an index.
-fn wide(x: u16) -> usize
-    ensures { (result ≡ x) × (result < 65536) }
-{
-    x as usize
-}
-
-// The same as a number of 32 bits: a row or a column, as the search computes with them.
-fn long(x: u16) -> u32
-    ensures { (result ≡ x) × (result < 65536) }
-{
-    x as u32
-}
-
-// The ends of the rows. Row `r` of an outline goes from column `lo[r]` up to but not including column `hi[r]`.
+// The ends of the rows. Row `r` of an outline goes from column `lo[r]` up to but not including column `hi[r]`. Two arrays, not one of
+// pairs: each side of the hull is found from its own ends alone.
 #[derive(Clone, Copy)]
 pub struct Ends {
     pub lo: [u16; ROWS],
     pub hi: [u16; ROWS],
 }
 
-// What a letter adds to the number of a corner.
+// What a letter adds to the number of a corner. `survey_walk` has another such match, with other constants of another type: one function
+// for both would be given them all at each call.
 pub fn stride(letter: u8) -> u16
     ensures { result ≡ stride_of (letter % 4) }
 {
@@ -60,8 +48,8 @@ fn mark_up(lo: &mut [u16; ROWS], number: u16, letter: u8)
     requires { length lo.old ≡ 256 }
     ensures { Marked (up_along (corner_numbered number) letter) (number % 256) lo.old lo.new }
 {
-    let row = wide(number / WIDTH);
     if letter == 1 {
+        let row = usize::from(number / WIDTH);
         lo[row] = number % WIDTH;
     }
 }
@@ -71,7 +59,7 @@ fn mark_down(hi: &mut [u16; ROWS], number: u16, letter: u8)
     requires { length hi.old ≡ 256 }
     ensures { Marked (down_along (corner_numbered number) letter) (number % 256) hi.old hi.new }
 {
-    let row = wide(number / WIDTH);
+    let row = usize::from(number / WIDTH);
     if letter == 3 && 0 < row {
         hi[row - 1] = number % WIDTH;
     }
@@ -84,14 +72,11 @@ pub fn row_ends(s: Point, w: &[u8]) -> Ends
     let mut lo = [0u16; ROWS];
     let mut hi = [0u16; ROWS];
     let mut number = s.row % WIDTH * WIDTH + s.col % WIDTH;
-    let mut i = 0;
-    while i < w.len() {
-        let letter = w[i];
-        let next = std::num::wrapping_add_u16(number, stride(letter));
-        mark_up(&mut lo, number, letter);
-        mark_down(&mut hi, number, letter);
+    for letter in w {
+        let next = number.wrapping_add(stride(*letter));
+        mark_up(&mut lo, number, *letter);
+        mark_down(&mut hi, number, *letter);
         number = next;
-        i += 1;
     }
     Ends { lo, hi }
 }
@@ -101,7 +86,7 @@ fn begins(lo: &[u16; ROWS], r: u32) -> u32
     requires { r < 256 }
     ensures { (result ≡ rows lo.now r) × (result < 65536) }
 {
-    long(lo[r as usize])
+    u32::from(lo[r as usize])
 }
 
 // A row begins at column `a`, the row `near` rows above it at `b`, and the row `far` rows above it at `c`. Whether the third, seen from the
@@ -123,6 +108,7 @@ fn tangent(lo: &[u16; ROWS], next: &[u16; ROWS], i: u32, t: u32, above: u32) -> 
     let mut j = i + 1;
     let mut b = begins(lo, j);
     let mut k = above;
+    // Each row is read from the one before it, so no range gives them.
     while j + 1 < t {
         let c = begins(lo, k);
         if !as_far_left(a, b, c, j - i, k - i) {
@@ -130,13 +116,14 @@ fn tangent(lo: &[u16; ROWS], next: &[u16; ROWS], i: u32, t: u32, above: u32) -> 
         }
         j = k;
         b = c;
-        k = long(next[j as usize]);
+        k = u32::from(next[j as usize]);
     }
     j
 }
 
 // The same for every row from `b` up, computed from the top row down (monotone chain). The last row stored is kept in a variable, because
-// loading it again would have to wait for the store.
+// loading it again would have to wait for the store. Rows `b` to `t` stay two numbers here and below: each function goes along the rows
+// from one to the other, or has another do so, and a struct of both would be opened at once.
 pub fn tangents(lo: &[u16; ROWS], b: usize, t: usize) -> [u16; ROWS]
     requires { (b ≤ t) × (t ≤ side) }
     ensures { Tangents (rows lo.now) (rows result) b t }
@@ -144,10 +131,8 @@ pub fn tangents(lo: &[u16; ROWS], b: usize, t: usize) -> [u16; ROWS]
     let mut next = [0u16; ROWS];
     let bottom = b as u32;
     let top = t as u32;
-    let mut i = top;
     let mut above: u32 = 0;
-    while bottom + 1 < i {
-        i -= 1;
+    for i in (bottom + 1..top).rev() {
         above = tangent(lo, &next, i - 1, top, above);
         next[(i - 1) as usize] = above as u16;
     }
@@ -160,7 +145,7 @@ pub fn edge_start(next: &[u16; ROWS], i: usize, r: usize) -> usize
     requires { i < 256 }
     ensures { result ≡ (if leb r (rows next.now i) then i else rows next.now i) }
 {
-    let j = wide(next[i]);
+    let j = usize::from(next[i]);
     if r <= j { i } else { j }
 }
 
@@ -196,12 +181,10 @@ fn gap_row(lo: &[u16; ROWS], i: u32, j: u32) -> u32
     requires { (i < j) × (j < 256) }
     ensures { (result ≡ gap_row (rows lo.now) i j) × (i < result) × (result ≤ j) }
 {
-    let mut r = i + 1;
-    while r < j {
+    for r in i + 1..j {
         if is_gap(lo, i, j, r) {
             return r;
         }
-        r += 1;
     }
     j
 }
@@ -215,8 +198,9 @@ fn chain(lo: &[u16; ROWS], t: usize, b: usize) -> Point
     let next = tangents(lo, b, t);
     let top = t as u32;
     let mut i = b as u32;
+    // Each edge begins where the one before it ends, so no range gives them.
     while i + 1 < top {
-        let j = long(next[i as usize]);
+        let j = u32::from(next[i as usize]);
         let r = gap_row(lo, i, j);
         if r < j {
             return Point {
@@ -232,42 +216,30 @@ fn chain(lo: &[u16; ROWS], t: usize, b: usize) -> Point
     }
 }
 
-// The number of the chart's columns from column `x` on.
-fn remaining(x: u16) -> u16
-    ensures { result ≡ side - x }
-{
-    if x <= SIDE { SIDE - x } else { 0 }
-}
-
 // The left ends of the mirror image, from the right ends of the rows.
 pub fn mirrored(hi: &[u16; ROWS]) -> [u16; ROWS]
     ensures { (k : ℕ) → k < 256 → rows result k ≡ side - rows hi.now k }
 {
-    let mut left = [0u16; ROWS];
-    let mut k = 0;
-    while k < ROWS {
-        left[k] = remaining(hi[k]);
-        k += 1;
+    let mut left = *hi;
+    for end in left.iter_mut() {
+        *end = SIDE.saturating_sub(*end);
     }
     left
 }
 
 // The lower of the gaps on the left and on the right side of rows `b` to `t - 1`. In the same row, the left one.
-fn lowest_gap(ends: Ends, b: usize, t: usize) -> Point
+fn lowest_gap(ends: &Ends, b: usize, t: usize) -> Point
     requires { (b ≤ t) × (t ≤ side) }
-    ensures { result ≡ lowest_gap (rows ends.lo) (rows ends.hi) b t }
+    ensures { result ≡ lowest_gap (rows ends.now.lo) (rows ends.now.hi) b t }
 {
-    let lo = ends.lo;
-    let hi = ends.hi;
-    let left = chain(&lo, t, b);
-    let mirror = mirrored(&hi);
-    let right = chain(&mirror, t, b);
+    let left = chain(&ends.lo, t, b);
+    let right = chain(&mirrored(&ends.hi), t, b);
     if left.row <= right.row {
         return left;
     }
-    let row = wide(right.row);
+    let row = usize::from(right.row);
     Point {
-        col: hi[row],
+        col: ends.hi[row],
         row: right.row,
     }
 }
@@ -277,11 +249,8 @@ fn lowest_gap(ends: Ends, b: usize, t: usize) -> Point
 pub fn missing_cell(s: Point, w: &[u8], bottom: u16, top: u16) -> Point
     ensures { result ≡ found_cell (outline s w.now) bottom top }
 {
-    if SIDE < top {
+    if SIDE < top || top < bottom {
         return s;
     }
-    if top < bottom {
-        return s;
-    }
-    lowest_gap(row_ends(s, w), wide(bottom), wide(top))
+    lowest_gap(&row_ends(s, w), usize::from(bottom), usize::from(top))
 }

@@ -6,6 +6,8 @@ use mathlib.Core.Bool.{◌&&◌}
 use mathlib.Core.Logic.{⊎_elim}
 use mathlib.Core.List.{List}
 use lib.ListN.{length, drop, get_or, replicate, length-replicate}
+use borrow.Rule.Slice.PartMut.{put_mid}
+use Rattle.std.proofs.lemmas.Slice.{put_mid-paste}
 use lib.Seq.{get_or-take, get_or-drop, paste, length-paste}
 use lib.Dec.{leb, ltb}
 use borrow.Author.Tests.{le-leb, lt-leb, lt-ltb}
@@ -98,15 +100,16 @@ module _ (rows : List ℕ) (s : ℕ) (x : Spans) (room : slot_bytes * s + slot_b
       → r₂ ≡ paste r₁ (slot_bytes * s + side) x.past side → SpansPut rows r₂ s x
   copies-put r₁ e₁ r₂ e₂ = rw (e₂, e₁) halves-put
 
--- The list that two copies leave
-pub halves-list : (rows : List ℕ) (s : ℕ) (x : Spans) (r₁ : List ℕ) → r₁ ≡ paste rows (slot_bytes * s) x.first side
-    → (r₂ : List ℕ) → r₂ ≡ paste r₁ (slot_bytes * s + side) x.past side → r₂ ≡ rows_put rows s x
-halves-list rows s x r₁ e₁ r₂ e₂ = rw (e₂, e₁)
-
-pub zeros-list : (rows : List ℕ) (s : ℕ) (r₁ : List ℕ) → r₁ ≡ paste rows (slot_bytes * s) (replicate side 0) side
-    → (r₂ : List ℕ) → r₂ ≡ paste r₁ (slot_bytes * s + side) (replicate side 0) side → r₂ ≡ rows_put rows s no_spans
-unfolding no_spans
-zeros-list rows s r₁ e₁ r₂ e₂ = rw (e₂, e₁)
+-- The list that two writes leave, one to each half of the slot
+pub halves-written : (rows : List ℕ) (s : ℕ) (x : Spans) (a b : List ℕ) → a ≡ x.first → length x.first ≡ side → b ≡ x.past
+    → length x.past ≡ side →
+    let at = slot_bytes * s in
+    put_mid (at + side) (at + slot_bytes - (at + side)) (put_mid at (at + side - at) rows a) b ≡ rows_put rows s x
+halves-written rows s x a b e l f m =
+    let at = slot_bytes * s in
+    put_mid-paste (at + side) (at + slot_bytes - (at + side)) (put_mid at (at + side - at) rows a) b x.past side f (omega arith) (sym m)
+    ∙ ap (λ (l : List ℕ). paste l (at + side) x.past side)
+    (put_mid-paste at (at + side - at) rows a x.first side e (omega arith) (sym l))
 
 -- Spans have a number for each row in both lists: those of an outline do, and those of no cell
 pub record Whole (x : Spans) : Type 0 where

@@ -1,61 +1,30 @@
 // The rows of several outlines side by side in one list of bytes, read and written in place.
 #![tactic(auto)]
 
-ghost use Rattle.std.specs.Prelude.{◌≡◌, ◌+◌, ◌*◌, ◌<◌, ◌≤◌, length, replicate};
-ghost use Rattle.std.proofs.Math.Seq.{paste};
+ghost use Rattle.std.specs.Prelude.{◌≡◌, ◌+◌, ◌*◌, ◌<◌, ◌≤◌, length};
 ghost use Rattle.chart.specs.Limits.{side};
 ghost use Rattle.chart.specs.Outline.{outline};
 ghost use Rattle.spans.specs.Spans.{no_spans, spans_of, in_spans, span_at};
-ghost use Rattle.span_list.specs.SpanList.{slot_bytes, spans_from, spans_at, rows_put, ends_at};
+ghost use Rattle.span_list.specs.SpanList.{slot_bytes, spans_at, rows_put, ends_at};
 
 use chart::Point;
-use spans::{ROWS, Span, spans_of};
+use spans::{Columns, ROWS, spans_of};
 
 // How many bytes a slot has.
 pub const WIDTH: usize = 2 * ROWS;
 
-// Copies 255 bytes into a list, from an index on.
-fn put_rows(from: &[u8; ROWS], at: usize, rows: &mut [u8])
-    requires { at + side ≤ length rows.old }
-    ensures { rows.new ≡ paste rows.old at from.now side }
-{
-    let all = &from[..];
-    let mut i = 0;
-    while i < ROWS {
-        rows[at + i] = all[i];
-        i += 1;
-    }
-}
-
-// Writes 255 zeros into a list, from an index on.
-fn put_zeros(at: usize, rows: &mut [u8])
-    requires { at + side ≤ length rows.old }
-    ensures { rows.new ≡ paste rows.old at (replicate side 0) side }
-{
-    let mut i = 0;
-    while i < ROWS {
-        rows[at + i] = 0;
-        i += 1;
-    }
-}
-
-// Writes these first columns and these columns past the last to the slot.
-fn put<'a>(rows: &mut [u8], slot: usize, first: &'a [u8; ROWS], past: &'a [u8; ROWS])
-    requires { slot_bytes * slot + slot_bytes ≤ length rows.old }
-    ensures { rows.new ≡ rows_put rows.old slot (spans_from first.now past.now) }
-{
-    let at = WIDTH * slot;
-    put_rows(first, at, rows);
-    put_rows(past, at + ROWS, rows);
-}
-
-// Writes the rows of an outline to the slot. They are found here, so no caller has them on its stack while it judges the outline.
+// Writes the rows of an outline to the slot. They are found here, and this is no part of its callers, so that no caller has them on its
+// stack while it judges the outline. A list and its slot, with the list's length, stay two parameters: some functions write the list and
+// some only read it, so a struct of the two would be needed twice.
+#[inline(never)]
 pub fn put_outline(rows: &mut [u8], slot: usize, start: Point, letters: &[u8])
     requires { slot_bytes * slot + slot_bytes ≤ length rows.old }
     ensures { rows.new ≡ rows_put rows.old slot (spans_of (outline start letters.now)) }
 {
     let spans = spans_of(start, letters);
-    put(rows, slot, &spans.first, &spans.past);
+    let at = WIDTH * slot;
+    rows[at..at + ROWS].copy_from_slice(&spans.first);
+    rows[at + ROWS..at + WIDTH].copy_from_slice(&spans.past);
 }
 
 // Makes every row of the slot empty.
@@ -64,8 +33,8 @@ pub fn put_none(rows: &mut [u8], slot: usize)
     ensures { rows.new ≡ rows_put rows.old slot no_spans }
 {
     let at = WIDTH * slot;
-    put_zeros(at, rows);
-    put_zeros(at + ROWS, rows);
+    rows[at..at + ROWS].fill(0);
+    rows[at + ROWS..at + WIDTH].fill(0);
 }
 
 // The two bytes of a row: its first column, and the column past its last.
@@ -75,20 +44,15 @@ struct Ends {
     past: u16,
 }
 
-fn wide(x: u8) -> u16
-    ensures { result ≡ x }
-{
-    x as u16
-}
-
+#[tactic(auto, unfolding(crate::specs::SpanList::ends_at))]
 fn ends_at(rows: &[u8], slot: usize, row: u16) -> Ends
     requires { (slot_bytes * slot + slot_bytes ≤ length rows.now) × (row < side) }
     ensures { result ≡ ends_at rows.now slot row }
 {
-    let at = WIDTH * slot + row as usize;
+    let at = WIDTH * slot + usize::from(row);
     Ends {
-        first: wide(rows[at]),
-        past: wide(rows[at + ROWS]),
+        first: u16::from(rows[at]),
+        past: u16::from(rows[at + ROWS]),
     }
 }
 
@@ -101,18 +65,18 @@ pub fn within(rows: &[u8], slot: usize, cell: Point) -> bool
     ends.first <= cell.col && cell.col < ends.past
 }
 
-// The columns of a row.
-pub fn span_at(rows: &[u8], slot: usize, row: u16) -> Span
+// The columns of a row, if any is enclosed.
+pub fn span_at(rows: &[u8], slot: usize, row: u16) -> Option<Columns>
     requires { (slot_bytes * slot + slot_bytes ≤ length rows.now) × (row < side) }
     ensures { result ≡ span_at (spans_at rows.now slot) row }
 {
     let ends = ends_at(rows, slot, row);
     if ends.first < ends.past {
-        Span::Columns {
+        Some(Columns {
             first: ends.first,
             last: ends.past - 1,
-        }
+        })
     } else {
-        Span::None
+        None
     }
 }

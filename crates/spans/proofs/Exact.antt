@@ -1,12 +1,12 @@
 -- The table is exact, since along each row the border has one up and, right of it, one
 -- down, or neither, and the enclosed cells are those between.
 -- The outline as sent runs along the same sides in either direction, so its two columns are the same.
-use Prim.Native.Nat.{ℕ, ◌-◌, ◌≤◌, ◌<◌}
+use Prim.Native.Nat.{ℕ, ◌-◌, ◌≤◌, ◌<◌, min, max}
 use native.Mathlib.Decide.{dec_le, dec_lt}
 use native.Mathlib.Omega.{arith}
 use mathlib.Core.Path.{◌≡◌, refl, sym, ap, ap₂, subst, ◌∙◌}
 use mathlib.Core.Logic.{◌↔◌, ◌⊎◌, inl, inr, ⊎_elim}
-use mathlib.Core.Bool.{Bool, true, false, cond, ◌&&◌}
+use mathlib.Core.Bool.{Bool, true, false, ◌&&◌}
 use mathlib.Core.List.{List}
 use lib.Seq.{ext_get_or}
 use lib.Dec.{leb, ltb}
@@ -31,9 +31,9 @@ use Rattle.convexity.proofs.Levels.{ups-tally, downs-tally}
 use Rattle.convexity.proofs.Clockwise.{form-clockwise, form-backward, simple-form, ups-backward, downs-backward}
 use Rattle.convexity.proofs.RowEnds.{bottom, top, ups-row, downs-row, ups-off, downs-off, row_ends, row-convex, enclosed-row}
 use Rattle.convexity.proofs.RowEnds.{enclosed-on-chart}
-use Rattle.spans.specs.Spans.{last_below, row_span, lesser, greater, left_side, right_side, table, spans_of, in_spans, span_from, span_at}
+use Rattle.spans.specs.Spans.{columns, last_below, row_span, left_side, right_side, table, spans_of, in_spans, span_from, span_at}
 use Rattle.spans.specs.Spans.{SpanExact, Describes}
-use Rattle.spans.specs.declared.Span.TheVariants.{None, Columns}
+use Rattle.std.specs.Prelude.{Some, None}
 use Rattle.spans.proofs.Tables.{table_at, table-past, length-table, up_le, down_le}
 use Rattle.spans.proofs.Sides.{column-none, column-once}
 
@@ -102,30 +102,6 @@ as-sent o h r u d t = go (clockwise (from_w o)) refl
         let back : Counts (reversed o) r u d = subst (λ (v : Outline). Counts v r u d) (form-backward o e) read in
         inr (record { up = λ c. sym (downs-backward o h c r) ∙ back.down c; down = λ c. sym (ups-backward o h c r) ∙ back.up c })
 
-lesser-left : (a b : ℕ) → a ≤ b → lesser a b ≡ a
-unfolding lesser
-lesser-left a b h = rw (le-leb a b h)
-
-lesser-right : (a b : ℕ) → a < b → lesser b a ≡ a
-unfolding lesser
-lesser-right a b h = rw (lt-leb b a h)
-
-greater-right : (a b : ℕ) → a ≤ b → greater a b ≡ b
-unfolding greater
-greater-right a b h = rw (le-leb a b h)
-
-greater-left : (a b : ℕ) → a < b → greater b a ≡ b
-unfolding greater
-greater-left a b h = rw (lt-leb b a h)
-
-greater-le : (a b n : ℕ) → a ≤ n → b ≤ n → greater a b ≤ n
-unfolding greater
-greater-le a b n h k = go (leb a b)
-  where
-    go : (x : Bool) → cond x b a ≤ n
-    go true = k
-    go false = h
-
 -- The two columns of a row, in whichever direction the outline runs
 record Between (o : Outline) (r m n : ℕ) : Type 0 where
   left : left_side o r ≡ m
@@ -133,7 +109,7 @@ record Between (o : Outline) (r m n : ℕ) : Type 0 where
 
 module _ (o : Outline) (h : Simple o) (r : ℕ) where
   sides-of : (a b : ℕ) → up_column o.start o.letters r 0 ≡ a → down_column o.start o.letters r 0 ≡ b
-      → Between o r (lesser a b) (greater a b)
+      → Between o r (min a b) (max a b)
   unfolding left_side right_side
   sides-of a b e f = record { left = rw (kept-up o h r, kept-down o h r, e, f); right = rw (kept-up o h r, kept-down o h r, e, f) }
 
@@ -141,18 +117,17 @@ module _ (o : Outline) (h : Simple o) (r : ℕ) where
   between-once m n l t =
       elim (as-sent o h r (from m) (from n) t) [
         | inl v ↦
-            rw (lesser-left m n (omega arith), greater-right m n (omega arith)) at
-            (sides-of m n (up-once o r (from m) (from n) v m (λ c. refl)) (down-once o r (from m) (from n) v n (λ c. refl)))
+            let s = sides-of m n (up-once o r (from m) (from n) v m (λ c. refl)) (down-once o r (from m) (from n) v n (λ c. refl)) in
+            record { left = omega (arith, s.left); right = omega (arith, s.right) }
         | inr v ↦
-            rw (lesser-right m n l, greater-left m n l) at
-            (sides-of n m (up-once o r (from n) (from m) v n (λ c. refl)) (down-once o r (from n) (from m) v m (λ c. refl)))
+            let s = sides-of n m (up-once o r (from n) (from m) v n (λ c. refl)) (down-once o r (from n) (from m) v m (λ c. refl)) in
+            record { left = omega (arith, s.left); right = omega (arith, s.right) }
       ]
 
   between-off : Counts (border o) r off off → Between o r 0 0
   between-off t =
       let v : Counts o r off off = ⊎_elim (λ v. v) (λ v. v) (as-sent o h r off off t) in
-      rw (lesser-left 0 0 (omega arith), greater-right 0 0 (omega arith)) at
-      (sides-of 0 0 (up-off o r off off v (λ c. refl)) (down-off o r off off v (λ c. refl)))
+      sides-of 0 0 (up-off o r off off v (λ c. refl)) (down-off o r off off v (λ c. refl))
 
 -- ---- the table
 
@@ -167,7 +142,7 @@ kept-past o r l = table_at (right_side o) 0 side r l ∙ ap (right_side o) (omeg
 
 right_le : (o : Outline) (r : ℕ) → right_side o r ≤ side
 unfolding right_side
-right_le o r = greater-le _ _ side (up_le o r) (down_le o r)
+right_le o r = omega (arith, up_le o r, down_le o r)
 
 -- No interval goes beyond the chart
 pub past-le : (o : Outline) (r : ℕ) → rows (spans_of o).past r ≤ side
@@ -184,7 +159,7 @@ past-le o r =
 -- ---- a search in a row whose marked columns are one interval
 
 found-columns : (marked : ℕ → ℕ → Bool) (r a b : ℕ) → a < side → first (λ c. marked c r) side ≡ a → last_below (λ c. marked c r) side ≡ b
-    → row_span marked r ≡ Columns a b
+    → row_span marked r ≡ Some (columns a b)
 unfolding row_span some_below
 found-columns marked r a b l e f = rw (e, f, lt-ltb a side l)
 
@@ -219,7 +194,7 @@ module _ (marked : ℕ → ℕ → Bool) (r : ℕ) where
           | no l ↦ rw (le-ltb a b (omega arith)) (none-span (λ c. not-held (marked c r) (λ g. omega (arith, (e c).0 g))))
         ]
       where
-        found : a < b → row_span marked r ≡ Columns a (b - 1)
+        found : a < b → row_span marked r ≡ Some (columns a (b - 1))
         found l = found-columns marked r a (b - 1) (omega arith) (run-first fits e l) (run-last fits e l)
 
     run-exact : Run → SpanExact marked r (span_from a b)

@@ -1,27 +1,27 @@
 // The interval of columns that an outline encloses in each row.
 #![tactic(auto)]
 
-ghost use Rattle.std.specs.Prelude.{◌≤◌, ◌≡◌};
-ghost use Rattle.chart.specs.Limits.{side};
+ghost use Rattle.std.specs.Prelude.{◌≡◌};
 ghost use Rattle.chart.specs.Outline.{outline};
-ghost use Rattle.spans.specs.Spans.{lesser as lesser_of, greater as greater_of, no_spans, spans_of, in_spans, span_at, span_reply};
+ghost use Rattle.spans.specs.Spans.{no_spans, spans_of, in_spans, span_at, span_reply};
 
-use calls::Reply;
-use chart::{Point, SIDE};
+use calls::Answer;
+use chart::{Point, Refusal, SIDE};
 use rows::row_ends;
 
 // The number of rows of cells on the chart.
 pub const ROWS: usize = SIDE as usize;
 
-// The enclosed columns of a row: every column from the first to the last and no other, or none.
+// The enclosed columns of a row: every column from the first to the last and no other.
 #[derive(Clone, Copy)]
-pub enum Span {
-    None,
-    Columns { first: u16, last: u16 },
+pub struct Columns {
+    pub first: u16,
+    pub last: u16,
 }
 
 // The rows of an outline: row `r` goes from column `first[r]`, included, to column `past[r]`,
-// excluded, and is empty if they are equal. All zeros: no row has a cell.
+// excluded, and is empty if they are equal. All zeros: no row has a cell. Two arrays, not one of pairs: the C interface has the first
+// columns of all rows before the past ones.
 #[repr(C)]
 #[derive(Clone, Copy)]
 pub struct Spans {
@@ -29,23 +29,8 @@ pub struct Spans {
     pub past: [u8; ROWS],
 }
 
-// The smaller of two corner columns.
-fn lesser(a: u16, b: u16) -> u8
-    requires { (a ≤ side) × (b ≤ side) }
-    ensures { result ≡ lesser_of a b }
-{
-    if a <= b { a as u8 } else { b as u8 }
-}
-
-// The larger of two corner columns.
-fn greater(a: u16, b: u16) -> u8
-    requires { (a ≤ side) × (b ≤ side) }
-    ensures { result ≡ greater_of a b }
-{
-    if a <= b { b as u8 } else { a as u8 }
-}
-
 // The table in which no row has a cell.
+#[tactic(auto, unfolding(crate::specs::Spans::no_spans))]
 pub fn no_spans() -> Spans
     ensures { result ≡ no_spans }
 {
@@ -62,59 +47,58 @@ pub fn spans_of(start: Point, letters: &[u8]) -> Spans
     let ends = row_ends(start, letters);
     let up = ends.lo;
     let down = ends.hi;
-    let mut first = [0u8; ROWS];
-    let mut past = [0u8; ROWS];
-    let mut k = 0;
-    while k < ROWS {
-        let a = up[k];
-        let b = down[k];
-        first[k] = lesser(a, b);
-        past[k] = greater(a, b);
-        k += 1;
+    let mut first = [0; ROWS];
+    let mut past = [0; ROWS];
+    // Two lists are written and two are read: `zip`s of four are no plainer than the row.
+    for k in 0..ROWS {
+        first[k] = up[k].min(down[k]) as u8;
+        past[k] = up[k].max(down[k]) as u8;
     }
     Spans { first, past }
 }
 
-// The columns of a row.
-pub fn span_at(spans: Spans, row: u16) -> Span
+// The columns of a row, if any is enclosed.
+#[tactic(auto, unfolding(crate::specs::Spans::span_at, crate::specs::Spans::span_from))]
+pub fn span_at(spans: Spans, row: u16) -> Option<Columns>
     ensures { result ≡ span_at spans row }
 {
     if SIDE <= row {
-        return Span::None;
+        return None;
     }
-    let at = row as usize;
-    let first = spans.first[at];
-    let past = spans.past[at];
+    let at = usize::from(row);
+    let first = u16::from(spans.first[at]);
+    let past = u16::from(spans.past[at]);
     if first < past {
-        Span::Columns {
-            first: first as u16,
-            last: past as u16 - 1,
-        }
+        Some(Columns {
+            first,
+            last: past - 1,
+        })
     } else {
-        Span::None
+        None
     }
 }
 
 // The columns of a row as the reply of a call.
 #[tactic(auto, unfolding(crate::specs::Spans::span_reply))]
-pub fn reply(span: Span) -> Reply
+pub fn reply(span: Option<Columns>) -> Result<Answer, Refusal>
     ensures { result ≡ span_reply span }
 {
     match span {
-        Span::None => Reply::None,
-        Span::Columns { first, last } => Reply::Columns { first, last },
+        None => Ok(Answer::None),
+        Some(Columns { first, last }) => Ok(Answer::Columns { first, last }),
     }
 }
 
 // Whether a cell is in the interval of its row.
+#[tactic(auto, unfolding(crate::specs::Spans::in_spans))]
 pub fn within(spans: Spans, cell: Point) -> bool
     ensures { result ≡ in_spans spans cell.col cell.row }
 {
     if SIDE <= cell.row {
         return false;
     }
-    let at = cell.row as usize;
-    let first = spans.first[at] as u16;
-    let past = spans.past[at] as u16;
+    let at = usize::from(cell.row);
+    let first = u16::from(spans.first[at]);
+    let past = u16::from(spans.past[at]);
     first <= cell.col && cell.col < past
 }

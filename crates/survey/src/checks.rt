@@ -1,10 +1,11 @@
-// Refusals 1 to 3, one check each. If nothing is found, the place is the count of letters.
-ghost use Rattle.std.specs.Prelude.{◌≡◌, false, length};
+// Refusals 1 to 3, one check each.
+ghost use Rattle.std.specs.Prelude.{◌≡◌, false, cond, nat_lt, length};
 ghost use Rattle.lattice.specs.Refusals.{bad_count, bad_start, letter_place};
 
 use chart::{LONGEST, Point, SHORTEST, SIDE};
 
 // 1. Too few or too many letters.
+#[tactic(auto, unfolding(lattice::specs::Refusals::bad_count))]
 pub(crate) fn bad_count(w: &[u8]) -> bool
     ensures { result ≡ bad_count w.now }
 {
@@ -12,6 +13,7 @@ pub(crate) fn bad_count(w: &[u8]) -> bool
 }
 
 // 2. The start is off the chart.
+#[tactic(auto, unfolding(lattice::specs::Refusals::bad_start))]
 pub fn bad_start(s: Point) -> bool
     ensures { result ≡ bad_start s }
 {
@@ -23,33 +25,18 @@ fn some_above(w: &[u8]) -> bool
     ensures { result ≡ false → letter_place w.now ≡ length w.now }
 {
     let mut found = false;
-    let mut i = 0;
-    while i < w.len() {
-        found = found | (3 < w[i]);
-        i += 1;
+    for letter in w {
+        found |= 3 < *letter;
     }
     found
 }
 
-fn first_above(w: &[u8]) -> usize
-    ensures { result ≡ letter_place w.now }
-{
-    let mut i = 0;
-    while i < w.len() {
-        if 3 < w[i] {
-            return i;
-        }
-        i += 1;
-    }
-    i
-}
-
 // 3. The place of the first letter above 3.
-pub(crate) fn letter_place(w: &[u8]) -> usize
-    ensures { result ≡ letter_place w.now }
+pub(crate) fn letter_place(w: &[u8]) -> Option<usize>
+    ensures { result ≡ cond (nat_lt (letter_place w.now) (length w.now)) (Some (letter_place w.now)) None }
 {
     if some_above(w) {
-        return first_above(w);
+        return w.iter().position(|letter| 3 < *letter);
     }
-    w.len()
+    None
 }

@@ -1,5 +1,6 @@
 -- The walk keeps the current corner, the corners met, and the least and the greatest number of either kind, each by its own laws.
 use Rattle.std.proofs.Common.{◌≡◌, ℕ, ◌+◌, ◌/◌, ◌%◌, ◌<◌, ◌≤◌, true, false, List, sym, ap, ◌∙◌, arith, le-ltb}
+use Prim.Native.Nat.{min, max}
 use native.Mathlib.Decide.{dec_lt}
 use Rattle.chart.specs.Outline.{Outline}
 use Rattle.lattice.specs.Chart.{corner_at, size, letter_at}
@@ -8,7 +9,7 @@ use Rattle.lattice.proofs.WalkLaws.{OnChart, corner-zero}
 use Rattle.convexity.specs.Cut.{corner_place}
 use Rattle.flags.specs.parts.Flags.{no_numbers, is_set, with_number}
 use Rattle.survey_walk.specs.declared.Corners.{Corners}
-use Rattle.survey_walk.specs.parts.Numbers.{col_number, col_stride, off_chart, row_number, row_stride, lower_of, higher_of, corners_from}
+use Rattle.survey_walk.specs.parts.Numbers.{col_number, col_stride, off_chart, row_number, row_stride, corners_from}
 use Rattle.survey_walk.specs.Corners.{corners_of}
 use Rattle.survey_walk.specs.parts.Walks.{Begun, Out, MetAt, AllRound}
 use Rattle.survey_walk.proofs.NumberLaws.{Visits, west-least, north-least, east-greatest, south-greatest}
@@ -88,7 +89,7 @@ module _ (o : Outline) (b : Begun o) where
 
           pub along-next
               : Along o (i + 1) ((n + d) % 4294967296) ((m + g) % 4294967296) (with_number met (m / 65536))
-              (lower_of west n) (lower_of north m) (higher_of east n) (higher_of south m)
+              (min west n) (min north m) (max east n) (max south m)
           along-next =
               record {
                 out = out-next o b t.out l e f;

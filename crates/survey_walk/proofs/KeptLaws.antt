@@ -1,5 +1,6 @@
 -- Each number kept is that of the first corner of those passed in its piece's frame, with its place.
-use Rattle.std.proofs.Common.{◌≡◌, ℕ, zero, suc, ◌+◌, ◌-◌, ◌%◌, ◌<◌, ◌≤◌, Bool, true, false, cond, ltb, ap, ◌∙◌, add-one, arith}
+use Rattle.std.proofs.Common.{◌≡◌, ℕ, zero, suc, ◌+◌, ◌-◌, ◌%◌, ◌<◌, ◌≤◌, Bool, true, false, cond, ltb, refl, ap, ◌∙◌, add-one, arith, ltb-true, ltb-false}
+use Prim.Native.Nat.{min, max}
 use Rattle.chart.specs.declared.Point.{Point}
 use Rattle.chart.specs.Outline.{Outline}
 use Rattle.lattice.specs.Chart.{corner_at, size}
@@ -7,8 +8,23 @@ use Rattle.lattice.proofs.WalkLaws.{OnChart, point-eq}
 use Rattle.convexity.specs.Frame.{frame_of}
 use Rattle.convexity.specs.Cut.{before, least, corner_place}
 use Rattle.convexity.proofs.Extreme.{least_lt}
-use Rattle.survey_walk.specs.parts.Numbers.{col_number, row_number, lower_of, higher_of, corner_read, row_of}
+use Rattle.survey_walk.specs.parts.Numbers.{col_number, row_number, corner_read, row_of}
 use Rattle.survey_walk.proofs.NumberLaws.{Visits, LeastFirst, GreatestFirst}
+
+-- The lower and the higher of two numbers, by one test
+lower-is : (best n : ℕ) → min best n ≡ cond (ltb n best) n best
+lower-is best n = go (ltb n best) refl
+  where
+    go : (x : Bool) → ltb n best ≡ x → min best n ≡ cond x n best
+    go true e = omega (arith, ltb-true n best e)
+    go false e = omega (arith, ltb-false n best e)
+
+higher-is : (best n : ℕ) → max best n ≡ cond (ltb best n) n best
+higher-is best n = go (ltb best n) refl
+  where
+    go : (x : Bool) → ltb best n ≡ x → max best n ≡ cond x n best
+    go true e = omega (arith, ltb-true best n e)
+    go false e = omega (arith, ltb-false best n e)
 
 module _ (o : Outline) (k : ℕ) where
   -- The place of the first corner among those before place i
@@ -40,13 +56,13 @@ module _ (o : Outline) (k : ℕ) where
       chosen true e = rw (add-one, ← e) c
       chosen false e = rw (add-one, ← e) t
 
-      pub kept-lower : LeastFirst k f → Kept (i + 1) (lower_of best n)
-      unfolding lower_of
-      kept-lower order = chosen (ltb n best) (rw (c, t) (order (corner_at o i) (corner_at o (first_of i)) i (first_of i) v))
+      pub kept-lower : LeastFirst k f → Kept (i + 1) (min best n)
+      kept-lower order =
+          rw (lower-is best n) (chosen (ltb n best) (rw (c, t) (order (corner_at o i) (corner_at o (first_of i)) i (first_of i) v)))
 
-      pub kept-higher : GreatestFirst k f → Kept (i + 1) (higher_of best n)
-      unfolding higher_of
-      kept-higher order = chosen (ltb best n) (rw (c, t) (order (corner_at o i) (corner_at o (first_of i)) i (first_of i) v))
+      pub kept-higher : GreatestFirst k f → Kept (i + 1) (max best n)
+      kept-higher order =
+          rw (higher-is best n) (chosen (ltb best n) (rw (c, t) (order (corner_at o i) (corner_at o (first_of i)) i (first_of i) v)))
 
     pub kept-end : {i best : ℕ} → Kept i best → i ≡ size o → best ≡ f (corner_at o (corner_place o k)) (corner_place o k)
     unfolding corner_place

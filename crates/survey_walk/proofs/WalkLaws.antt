@@ -1,6 +1,6 @@
 -- While no letter leaves the chart, the numbers are those of the current corner; the first letter that leaves it leads to a number off the
 -- chart.
-use Rattle.std.proofs.Common.{◌≡◌, ℕ, zero, suc, ◌+◌, ◌*◌, ◌/◌, ◌%◌, ◌<◌, ◌≤◌, Bool, true, false, not, eqb, ltb, List, length, get_or, sym, refl, ap, ◌∙◌, add-one, arith, ltb-false, eqb-true}
+use Rattle.std.proofs.Common.{◌≡◌, ℕ, zero, suc, ◌+◌, ◌*◌, ◌/◌, ◌%◌, ◌<◌, ◌≤◌, Bool, true, false, not, eqb, ltb, List, length, get_or, sym, refl, ap, ◌∙◌, add-one, arith, le-ltb, ltb-false, eqb-true}
 use borrow.Author.Tests.{eqb-false}
 use Rattle.base.specs.Below.{first}
 use Rattle.base.proofs.BelowLaws.{first-none-at, first_step, first-stop}
@@ -13,6 +13,7 @@ use Rattle.lattice.proofs.WalkLaws.{OnChart, point-eq, same-point-self, not-same
 use Rattle.lattice.proofs.WalkLaws.{corner-suc, corner-all, corners-on-chart}
 use Rattle.lattice.proofs.Staying.{start-on-chart, stays_at}
 use Rattle.survey_walk.specs.parts.Numbers.{col_number, col_stride, off_chart, row_number, row_stride}
+use Rattle.std.specs.Prelude.{Ok, Err}
 use Rattle.survey_walk.specs.parts.Walks.{Begun, Out, RestOf}
 use Rattle.survey_walk.proofs.CheckLaws.{first-zero, counted-short}
 use Rattle.survey_walk.proofs.NumberLaws.{col-stays, col-next, col-leaves, row_next}
@@ -104,20 +105,19 @@ module _ {w : List ℕ} {k m i n d : ℕ} (h : Further w k m i n) (l : i < lengt
   pub further-next : off_chart ((n + d) % 4294967296) ≡ false → Further w k m (i + 1) ((n + d) % 4294967296)
   further-next f s b g = out-next (outline s w) b (h s b g) l e f
 
-  pub further-leaves : off_chart ((n + d) % 4294967296) ≡ true → {x : ℕ} (s : Point) → Begun (outline s w) → Out (outline s w) k m
-      → RestOf (outline s w) (record { leaves = i; end = x })
-  further-leaves f s b g =
-      let o = outline s w in
-      let at = out-leaves o b (h s b g) l e f in
-      record { place = at; number = λ t. absurd (omega (arith, ltb-false (leaving_place o) (size o) t)) }
+  pub further-leaves : off_chart ((n + d) % 4294967296) ≡ true → (s : Point) → Begun (outline s w) → Out (outline s w) k m
+      → RestOf (outline s w) (Err i)
+  unfolding RestOf
+  further-leaves f s b g = (l, out-leaves (outline s w) b (h s b g) l e f)
 
 pub further-end : {w : List ℕ} {k m i n : ℕ} → Further w k m i n → length w ≤ i → (s : Point) → Begun (outline s w) → Out (outline s w) k m
-    → RestOf (outline s w) (record { leaves = i; end = n })
+    → RestOf (outline s w) (Ok n)
+unfolding RestOf
 further-end {w} {k} {m} {i} {n} h l s b g =
     let o = outline s w in
     let t = h s b g in
     let all : i ≡ size o = omega (arith, t.passed) in
-    record { place = all ∙ sym (out_stays o b t all); number = λ z. out-number o b t all }
+    (le-ltb (leaving_place o) (size o) (omega (arith, out_stays o b t all)), out-number o b t all)
 
 -- ---- refusal 5
 

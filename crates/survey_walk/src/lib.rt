@@ -6,11 +6,12 @@ ghost use Rattle.std.specs.Prelude.{◌≡◌, ◌+◌, ◌*◌, ◌/◌, ◌%�
 ghost use Rattle.chart.specs.Limits.{side};
 ghost use Rattle.chart.specs.declared.Point.{Point};
 ghost use Rattle.chart.specs.Outline.{outline};
-ghost use Rattle.survey_walk.specs.parts.Numbers.{col_number, col_stride, off_chart, row_number, row_stride, lower_of, higher_of};
+ghost use Rattle.survey_walk.specs.parts.Numbers.{col_number, col_stride, off_chart, row_number, row_stride};
 ghost use Rattle.survey_walk.specs.parts.Numbers.{corners_from};
 ghost use Rattle.survey_walk.specs.parts.Walks.{Begun, Out, RestOf, WalkedAs};
 
 use chart::{Point, SIDE};
+use flags::Flags;
 
 // The places of the letters that leave W, N, E and S, the corner W, and the rows of S and N.
 #[derive(Clone, Copy)]
@@ -63,37 +64,34 @@ pub fn col_number(p: Point) -> u32
     requires { (p.col ≤ side) × (p.row ≤ side) }
     ensures { result ≡ col_number p 0 }
 {
-    (p.col as u32) * COL_UNIT + (p.row as u32) * ROW_UNIT
+    u32::from(p.col) * COL_UNIT + u32::from(p.row) * ROW_UNIT
 }
 
 fn row_number(p: Point) -> u32
     requires { (p.col ≤ side) × (p.row ≤ side) }
     ensures { result ≡ row_number p 0 }
 {
-    ((SIDE - p.row) as u32) * LEVEL_UNIT + (p.col as u32) * CORNER_UNIT
+    u32::from(SIDE - p.row) * LEVEL_UNIT + u32::from(p.col) * CORNER_UNIT
 }
 
-// What a letter adds to them.
-fn col_stride(letter: u8) -> u32
-    ensures { result ≡ col_stride (letter % 4) }
-{
-    match letter % 4 {
-        0 => COL_RIGHT,
-        1 => COL_UP,
-        2 => COL_LEFT,
-        _ => COL_DOWN,
-    }
+// What a letter adds to the number by columns and to the number by rows.
+#[derive(Clone, Copy)]
+struct Strides {
+    col: u32,
+    row: u32,
 }
 
-fn row_stride(letter: u8) -> u32
-    ensures { result ≡ row_stride (letter % 4) }
+// The strides of a letter. Both numbers come from one match: two of them become a jump for each letter, which processors guess wrong.
+fn stride(letter: u8) -> Strides
+    ensures { (result.col ≡ col_stride (letter % 4)) × (result.row ≡ row_stride (letter % 4)) }
 {
-    match letter % 4 {
-        0 => ROW_RIGHT,
-        1 => ROW_UP,
-        2 => ROW_LEFT,
-        _ => ROW_DOWN,
-    }
+    let (col, row) = match letter % 4 {
+        0 => (COL_RIGHT, ROW_RIGHT),
+        1 => (COL_UP, ROW_UP),
+        2 => (COL_LEFT, ROW_LEFT),
+        _ => (COL_DOWN, ROW_DOWN),
+    };
+    Strides { col, row }
 }
 
 // Off the chart the row or the column is above 255; one below 0 wraps.
@@ -101,19 +99,6 @@ fn is_off_chart(number: u32) -> bool
     ensures { result ≡ off_chart number }
 {
     (LAST < number / ROW_UNIT % ROWS) | (LAST < number / COL_UNIT)
-}
-
-// The lower and the higher of two numbers.
-fn lower(best: u32, number: u32) -> u32
-    ensures { result ≡ lower_of best number }
-{
-    if number < best { number } else { best }
-}
-
-fn higher(best: u32, number: u32) -> u32
-    ensures { result ≡ higher_of best number }
-{
-    if best < number { number } else { best }
 }
 
 // W, N, E and S from their numbers.
@@ -150,33 +135,32 @@ pub fn along(s: Point, w: &[u8]) -> Walk
     requires { Begun (outline s w.now) }
     ensures { WalkedAs (outline s w.now) result }
 {
-    let mut met = flags::none();
+    let mut met = Flags::none();
     let mut by_col = col_number(s);
     let mut by_row = row_number(s);
     let mut west = by_col;
     let mut north = by_row;
     let mut east = by_col;
     let mut south = by_row;
-    let count = w.len() as u32;
-    let mut i: u32 = 0;
-    while i < count {
-        if flags::mark(&mut met, (by_row / CORNER_UNIT) as usize) {
+    // A place of 32 bits: one of 64 takes a controller more instructions for each letter.
+    for i in 0..w.len() as u32 {
+        let place = i as usize;
+        if met.mark((by_row / CORNER_UNIT) as usize) {
             return Walk::Meets {
-                place: i as usize,
+                place,
                 number: by_col,
             };
         }
-        west = lower(west, by_col);
-        north = lower(north, by_row);
-        east = higher(east, by_col);
-        south = higher(south, by_row);
-        let letter = w[i as usize];
-        by_col = std::num::wrapping_add_u32(by_col, col_stride(letter));
-        by_row = std::num::wrapping_add_u32(by_row, row_stride(letter));
+        west = west.min(by_col);
+        north = north.min(by_row);
+        east = east.max(by_col);
+        south = south.max(by_row);
+        let step = stride(w[place]);
+        by_col = by_col.wrapping_add(step.col);
+        by_row = by_row.wrapping_add(step.row);
         if is_off_chart(by_col) {
-            return Walk::Leaves { place: i as usize };
+            return Walk::Leaves { place };
         }
-        i += 1;
     }
     Walk::Round {
         end: by_col,
@@ -184,41 +168,27 @@ pub fn along(s: Point, w: &[u8]) -> Walk
     }
 }
 
-// The place of the first letter that leaves the chart, or the count of letters; and then the number of the last corner.
-#[derive(Clone, Copy)]
-pub struct Rest {
-    pub leaves: usize,
-    pub end: u32,
-}
-
-// Refusal 4 and the end of the walk, without marks, from the corner at a place on, with its number.
-pub fn walk_on(w: &[u8], from: usize, number: u32) -> Rest
+// Refusal 4 and the end of the walk, without marks, from the corner at a place on, with its number: the number of the last corner, or the
+// place of the first letter that leaves the chart.
+pub fn walk_on(w: &[u8], from: usize, number: u32) -> Result<u32, usize>
     ensures { (s : Point) → Begun (outline s w.now) → Out (outline s w.now) from number
         → RestOf (outline s w.now) result }
 {
     let mut by_col = number;
-    let mut i = from;
-    while i < w.len() {
-        by_col = std::num::wrapping_add_u32(by_col, col_stride(w[i]));
+    for place in from..w.len() {
+        by_col = by_col.wrapping_add(stride(w[place]).col);
         if is_off_chart(by_col) {
-            return Rest {
-                leaves: i,
-                end: by_col,
-            };
+            return Err(place);
         }
-        i += 1;
     }
-    Rest {
-        leaves: i,
-        end: by_col,
-    }
+    Ok(by_col)
 }
 
 // 5. The walk ends at another corner than its start.
 pub fn ends_away(s: Point, end: u32) -> bool
     ensures { result ≡ not (end / 1024 == s.col * 1024 + s.row) }
 {
-    end / ROW_UNIT != (s.col as u32) * ROWS + (s.row as u32)
+    end / ROW_UNIT != u32::from(s.col) * ROWS + u32::from(s.row)
 }
 
 // Whether the steps of the letters do not add up to zero, modulo 128. If they do, rights and ups are half of the letters, and so are ups
@@ -226,12 +196,9 @@ pub fn ends_away(s: Point, end: u32) -> bool
 pub fn seems_open(w: &[u8]) -> bool {
     let mut back = 0u8;
     let mut middle = 0u8;
-    let mut i = 0;
-    while i < w.len() {
-        let letter = w[i];
-        back = std::num::wrapping_add_u8(back, letter & 2);
-        middle = std::num::wrapping_add_u8(middle, std::num::wrapping_add_u8(letter, 1) & 2);
-        i += 1;
+    for letter in w {
+        back = back.wrapping_add(*letter & 2);
+        middle = middle.wrapping_add(letter.wrapping_add(1) & 2);
     }
     let count = (w.len() % 256) as u8;
     (back != count) | (middle != count)

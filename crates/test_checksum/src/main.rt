@@ -17,13 +17,11 @@ fn judge(rt: &impl Print, bytes: &[u8]) -> io::Result<()> {
 }
 
 fn main(rt: HostRuntime) -> io::Result<()> {
-    let none = [0u8; 0];
-    print(&rt, &none[..])?;
+    print(&rt, b"")?;
     print(&rt, b"123456789")?;
     let zeros = [0u8; 32];
-    print(&rt, &zeros[..])?;
-    let ones = [255u8; 32];
-    print(&rt, &ones[..])?;
+    print(&rt, &zeros)?;
+    print(&rt, &[255; 32])?;
     print(
         &rt,
         b"\x00\x01\x02\x03\x04\x05\x06\x07\x08\t\n\x0B\x0C\r\x0E\x0F\x10\x11\x12\x13\x14\x15\x16\x17\x18\x19\x1A\x1B\x1C\x1D\x1E\x1F",
@@ -41,7 +39,7 @@ fn main(rt: HostRuntime) -> io::Result<()> {
     command[31] = 0x18;
     command[32] = 0x28;
     command[40] = 0x02;
-    print(&rt, &command[..])?;
+    print(&rt, &command)?;
     judge(&rt, b"123456789\x83\x92\x06\xE3")?;
     judge(&rt, b"123456788\x83\x92\x06\xE3")?;
     judge(&rt, b"123456789\x83\x92\x06\xE2")?;

@@ -4,9 +4,6 @@ use crate::sets;
 // How many cells there are.
 pub(crate) const CELLS: u16 = 16;
 
-// No cell.
-pub(crate) const NONE: u16 = 16;
-
 pub(crate) fn col(k: u16) -> u16 {
     k % 4
 }
@@ -16,22 +13,17 @@ pub(crate) fn row(k: u16) -> u16 {
 }
 
 // The lowest cell of a set, leftmost in its row. Cells are numbered in this order.
-pub(crate) fn lowest(set: u32) -> u16 {
-    for k in 0..CELLS {
-        if sets::has(set, k) {
-            return k;
-        }
-    }
-    NONE
+pub(crate) fn lowest(set: u32) -> Option<u16> {
+    (0..CELLS).find(|k| sets::has(set, *k))
 }
 
 // The leftmost cell of a set, lowest in its column.
-pub(crate) fn leftmost(set: u32) -> u16 {
+pub(crate) fn leftmost(set: u32) -> Option<u16> {
     for t in 0..CELLS {
         let k = 4 * (t % 4) + t / 4;
         if sets::has(set, k) {
-            return k;
+            return Some(k);
         }
     }
-    NONE
+    None
 }

@@ -1,26 +1,16 @@
 // Runs one outline through the engine's test and loose queries, and compares with what was counted.
 ghost use Rattle.std.specs.Prelude.{◌≡◌, ◌≤◌, length, take};
 
-use crate::cells::NONE;
 use crate::plain::Counted;
 use crate::walks::CORNERS;
 use crate::{cells, plain, sets, walks};
-use chart::{Fields, Point, reply};
+use chart::{Fields, Point};
 
 // Two numbers for each edge. There is at most one edge from each of the 16 cells.
 const ROOM: usize = 32;
 
-// The steps from one column or row to another.
-const STEPS: [i16; 7] = [-3, -2, -1, 0, 1, 2, 3];
-
 fn step_agrees(step: i16, from: u16, to: u16) -> bool {
-    if 3 < from {
-        return false;
-    }
-    if 3 < to {
-        return false;
-    }
-    STEPS[(3 + to - from) as usize] == step
+    i32::from(to) - i32::from(from) == i32::from(step)
 }
 
 // The edge at index k of the list leads from p to q.
@@ -35,14 +25,17 @@ fn edge_agrees(list: &[i16], k: usize, p: u16, q: u16) -> bool {
 }
 
 // The edges lead round the hull from the anchor back to the anchor, vertex by vertex.
-fn edges_agree(list: &[i16], count: usize, set: u32, anchor: u16) -> bool {
+fn edges_agree(edges: &[i16], set: u32, anchor: u16) -> bool {
+    let count = edges.len() / 2;
     let mut p = anchor;
     for k in 0..ROOM {
-        let q = plain::next_vertex(set, p);
-        if q == NONE || (0 < k && p == anchor) {
+        if 0 < k && p == anchor {
             return k == count;
         }
-        if !edge_agrees(list, k, p, q) {
+        let Some(q) = plain::next_vertex(set, p) else {
+            return k == count;
+        };
+        if !edge_agrees(edges, k, p, q) {
             return false;
         }
         p = q;
@@ -56,34 +49,22 @@ fn spread(x: u16) -> u16 {
 }
 
 fn in_set(set: u32, col: u16, row: u16) -> bool {
-    if 3 < col {
-        return false;
-    }
-    if 3 < row {
-        return false;
-    }
-    sets::has(set, 4 * row + col)
+    col < 4 && row < 4 && sets::has(set, 4 * row + col)
 }
 
 // A loose query finds a cell, in the 4 by 4 corner or beyond it, inside exactly if it is in the set.
-fn query_agrees(anchor: Point, edges: &[i16], set: u32, t: u16) -> bool {
-    let col = spread(t % 8);
-    let row = spread(t / 8);
-    let fields = reply::of_position(polygon::loose_query(anchor, edges, Point { col, row }));
-    if fields.number != 0 {
-        return false;
-    }
-    if in_set(set, col, row) {
-        fields.word == 1
-    } else {
-        fields.word == 2
-    }
+fn query_agrees(anchor: Point, edges: &[i16], set: u32, col: u16, row: u16) -> bool {
+    let fields = Fields::from(polygon::loose_query(anchor, edges, Point { col, row }));
+    let word = if in_set(set, col, row) { 1 } else { 2 };
+    fields.number == 0 && fields.word == word
 }
 
 fn queries_agree(anchor: Point, edges: &[i16], set: u32) -> bool {
-    for t in 0..64 {
-        if !query_agrees(anchor, edges, set, t) {
-            return false;
+    for row in 0..8 {
+        for col in 0..8 {
+            if !query_agrees(anchor, edges, set, spread(col), spread(row)) {
+                return false;
+            }
         }
     }
     true
@@ -95,49 +76,46 @@ fn cell_agrees(fields: Fields, k: u16) -> bool {
 }
 
 // A taken outline: its anchor, its edges, and loose queries with them.
-fn taken_agrees(fields: Fields, list: &[i16], counted: Counted) -> bool {
+fn taken_agrees(fields: Fields, list: &[i16], set: u32) -> bool {
     let count = fields.place as usize;
-    let set = counted.cells;
-    let anchor = counted.cell;
+    let Some(anchor) = cells::leftmost(set) else {
+        return false;
+    };
     if list.len() / 2 < count {
         return false;
     }
-    if !cell_agrees(fields, anchor) || !edges_agree(list, count, set, anchor) {
+    let edges = &list[..2 * count];
+    if !cell_agrees(fields, anchor) || !edges_agree(edges, set, anchor) {
         return false;
     }
     let at = Point {
         col: fields.col,
         row: fields.row,
     };
-    queries_agree(at, &list[0..2 * count], set)
+    queries_agree(at, edges, set)
 }
 
 fn agrees(fields: Fields, list: &[i16], counted: Counted) -> bool {
-    let number = counted.number;
-    if fields.number != number {
-        return false;
-    }
-    match number {
-        0 => taken_agrees(fields, list, counted),
-        9 => cell_agrees(fields, counted.cell),
-        _ => true,
+    match counted {
+        Counted::Convex(set) => fields.number == 0 && taken_agrees(fields, list, set),
+        Counted::Gap => fields.number == 8,
+        Counted::Dent(missing) => fields.number == 9 && cell_agrees(fields, missing),
     }
 }
 
-// The letters of a closed walk of n corners, from the corner at `first`. Returns how many there are.
-fn spell(corners: &[u16; CORNERS], n: usize, first: usize, letters: &mut [u8]) -> usize
+// The letters of a closed walk, from the corner at `first`. Returns how many there are.
+fn spell(corners: &[u16], first: usize, letters: &mut [u8]) -> usize
     ensures within { result ≤ length letters.new }
     ensures prefix { result ≡ length (take result letters.new) }
 {
-    let mut i = 0;
-    while i < n && i < letters.len() {
+    let count = corners.len().min(letters.len());
+    for i in 0..count {
         let place = first.wrapping_add(i);
-        let from = walks::corner_at(corners, n, place);
-        let to = walks::corner_at(corners, n, place.wrapping_add(1));
+        let from = walks::corner_at(corners, place);
+        let to = walks::corner_at(corners, place.wrapping_add(1));
         letters[i] = walks::letter(from, to);
-        i += 1;
     }
-    i
+    count
 }
 
 // The same walk backward: the letters from the last to the first, each replaced by its opposite. Returns how many there are.
@@ -145,13 +123,10 @@ fn turn_back(letters: &[u8], back: &mut [u8]) -> usize
     ensures within { result ≤ length back.new }
     ensures prefix { result ≡ length (take result back.new) }
 {
-    let n = letters.len();
-    let mut i = 0;
-    while i < n && i < back.len() {
-        back[i] = (letters[n - 1 - i] % 4 + 2) % 4;
-        i += 1;
+    for (to, from) in back.iter_mut().zip(letters.iter().rev()) {
+        *to = (*from % 4 + 2) % 4;
     }
-    i
+    letters.len().min(back.len())
 }
 
 // If the outline is drawn backward, a refusal's place counts from the other end. A taken outline's place is the count of edges.
@@ -173,16 +148,6 @@ fn twins_agree(fields: Fields, back: Fields, n: usize) -> bool {
         && places_agree(fields, back, n)
 }
 
-// The same edges in both lists.
-fn same_edges(a: &[i16; ROOM], b: &[i16; ROOM]) -> bool {
-    for k in 0..ROOM {
-        if a[k] != b[k] {
-            return false;
-        }
-    }
-    true
-}
-
 // The engine's reply to an outline, and whether it agrees with what was counted and with the reply to the outline drawn backward.
 #[derive(Clone, Copy)]
 pub(crate) struct Answer {
@@ -191,24 +156,22 @@ pub(crate) struct Answer {
 }
 
 // The outline of a closed walk from the corner at `first`, and the same drawn backward.
-pub(crate) fn run(corners: &[u16; CORNERS], n: usize, first: usize, counted: Counted) -> Answer {
+pub(crate) fn run(corners: &[u16], first: usize, counted: Counted) -> Answer {
     let mut letters = [0u8; CORNERS];
-    let count = spell(corners, n, first, &mut letters);
-    let corner = walks::corner_at(corners, n, first);
+    let count = spell(corners, first, &mut letters);
+    let corner = walks::corner_at(corners, first);
     let start = Point {
         col: corner % 5,
         row: corner / 5,
     };
     let mut list = [0i16; ROOM];
-    let fields = reply::of_verdict(outline::test(start, &letters[..count], &mut list));
+    let fields = Fields::from(outline::test(start, &letters[..count], &mut list));
     let mut backward = [0u8; CORNERS];
     let turned = turn_back(&letters[..count], &mut backward);
     let mut twin = [0i16; ROOM];
-    let back = reply::of_verdict(outline::test(start, &backward[..turned], &mut twin));
+    let back = Fields::from(outline::test(start, &backward[..turned], &mut twin));
     Answer {
         number: fields.number,
-        agrees: agrees(fields, &list, counted)
-            && twins_agree(fields, back, count)
-            && same_edges(&list, &twin),
+        agrees: agrees(fields, &list, counted) && twins_agree(fields, back, count) && list == twin,
     }
 }

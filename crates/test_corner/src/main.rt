@@ -11,13 +11,13 @@ mod walks;
 use compare::Answer;
 use plain::Counted;
 use std::io;
-use walks::{CORNERS, OFF, Search};
+use walks::{CORNERS, OFF, Outcome, Search};
 
 // The longest search from one corner takes 768,725 steps. A search cut short would miss walks, and the counts would show it.
 const MOST_STEPS: u64 = 1_000_000;
 
 // Counts so far: closed simple walks, outlines by the engine's reply, and those that do not agree.
-#[derive(Clone, Copy)]
+#[derive(Clone, Copy, Default)]
 struct Tally {
     walks: u64,
     outlines: u64,
@@ -31,83 +31,62 @@ fn more(n: u64) -> u64 {
     n.wrapping_add(1)
 }
 
-fn with_number(t: Tally, number: u16) -> Tally {
-    let mut u = t;
-    u.outlines = more(t.outlines);
-    match number {
-        0 => {
-            u.taken = more(t.taken);
+impl Tally {
+    fn add_answer(&mut self, answer: Answer) {
+        self.outlines = more(self.outlines);
+        match answer.number {
+            0 => {
+                self.taken = more(self.taken);
+            }
+            8 => {
+                self.back_steps = more(self.back_steps);
+            }
+            9 => {
+                self.dents = more(self.dents);
+            }
+            _ => {}
         }
-        8 => {
-            u.back_steps = more(t.back_steps);
+        if !answer.agrees {
+            self.mismatches = more(self.mismatches);
         }
-        9 => {
-            u.dents = more(t.dents);
+    }
+
+    // A closed walk from each of its corners.
+    fn add_starts(&mut self, corners: &[u16], counted: Counted) {
+        for first in 0..corners.len() {
+            self.add_answer(compare::run(corners, first, counted));
         }
-        _ => {}
     }
-    u
-}
 
-fn with_answer(t: Tally, answer: Answer) -> Tally {
-    let mut u = with_number(t, answer.number);
-    if !answer.agrees {
-        u.mismatches = more(u.mismatches);
+    // A closed walk that was found. Each is found in both directions. It is counted if its first letter is 1.
+    fn add_walk(&mut self, s: &Search) {
+        if CORNERS <= s.depth {
+            return;
+        }
+        let corners = &s.corners[..s.depth + 1];
+        if walks::letter(s.corners[0], s.corners[1]) == 1 {
+            self.walks = more(self.walks);
+        }
+        self.add_starts(corners, plain::count(corners));
     }
-    u
-}
 
-// A closed walk from each of its corners.
-fn with_starts(t: Tally, corners: &[u16; CORNERS], n: usize, counted: Counted) -> Tally {
-    let mut u = t;
-    for first in 0..n {
-        u = with_answer(u, compare::run(corners, n, first, counted));
+    // The closed walks whose lowest row's leftmost corner is `start`.
+    fn add_search(&mut self, start: u16) {
+        let mut s = walks::begin(start);
+        for _ in 0..MOST_STEPS {
+            match walks::step(&mut s) {
+                Outcome::Closed => self.add_walk(&s),
+                Outcome::Open => {}
+                Outcome::Done => return,
+            }
+        }
     }
-    u
-}
-
-// A closed walk that was found. Each is found in both directions. It is counted if its first letter is 1.
-fn with_walk(t: Tally, s: Search) -> Tally {
-    if !s.closed {
-        return t;
-    }
-    let depth = s.depth;
-    if CORNERS <= depth {
-        return t;
-    }
-    let corners = s.corners;
-    let n = depth + 1;
-    let mut u = t;
-    if walks::letter(corners[0], corners[1]) == 1 {
-        u.walks = more(t.walks);
-    }
-    with_starts(u, &corners, n, plain::count(&corners, n))
-}
-
-// The closed walks whose lowest row's leftmost corner is `start`.
-fn with_search(t: Tally, start: u16) -> Tally {
-    let mut u = t;
-    let mut s = walks::begin(start);
-    let mut left = MOST_STEPS;
-    while 0 < left && !s.done {
-        s = walks::step(s);
-        u = with_walk(u, s);
-        left -= 1;
-    }
-    u
 }
 
 fn run_all() -> Tally {
-    let mut t = Tally {
-        walks: 0,
-        outlines: 0,
-        taken: 0,
-        back_steps: 0,
-        dents: 0,
-        mismatches: 0,
-    };
+    let mut t = Tally::default();
     for start in 0..OFF {
-        t = with_search(t, start);
+        t.add_search(start);
     }
     t
 }

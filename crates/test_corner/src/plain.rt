@@ -1,28 +1,23 @@
 // Plain counting of cells: the definitions of contract 2, by trying every cell and every three cells. It uses nothing of the engine.
 ghost use Rattle.std.specs.Prelude.{◌≤◌};
 
-use crate::cells::{CELLS, NONE};
-use crate::walks::CORNERS;
+use crate::cells::CELLS;
 use crate::{cells, sets, walks};
 
-// One number below this stands for three cells.
-const TRIPLES: u16 = 4096;
-
-// What is counted: the number that the test must reply, the enclosed cells, and the missing cell or the anchor.
+// What is counted.
 #[derive(Clone, Copy)]
-pub(crate) struct Counted {
-    pub(crate) number: u16,
-    pub(crate) cells: u32,
-    pub(crate) cell: u16,
+pub(crate) enum Counted {
+    // The enclosed cells are convex: their set.
+    Convex(u32),
+    // A row or a column has a gap.
+    Gap,
+    // The lowest missing cell.
+    Dent(u16),
 }
 
 // The letter between two corners steps up along the cell's row, at the cell's column or left of it.
 fn climbs(from: u16, to: u16, k: u16) -> bool {
     from < to && to - from == 5 && from / 5 == cells::row(k) && from % 5 <= cells::col(k)
-}
-
-fn one_if(b: bool) -> u64 {
-    if b { 1 } else { 0 }
 }
 
 // The two numbers differ by one.
@@ -31,27 +26,25 @@ fn one_apart(a: u64, b: u64) -> bool {
 }
 
 // Enclosed: clockwise, ups minus downs is 1. In the other direction ups and downs change places, and downs minus ups is 1.
-fn encloses(corners: &[u16; CORNERS], n: usize, k: u16) -> bool {
+fn encloses(corners: &[u16], k: u16) -> bool {
     let mut ups = 0u64;
     let mut downs = 0u64;
-    for i in 0..n {
-        let from = walks::corner_at(corners, n, i);
-        let to = walks::corner_at(corners, n, i + 1);
-        ups = ups.wrapping_add(one_if(climbs(from, to, k)));
-        downs = downs.wrapping_add(one_if(climbs(to, from, k)));
+    for i in 0..corners.len() {
+        let from = walks::corner_at(corners, i);
+        let to = walks::corner_at(corners, i + 1);
+        ups = ups.wrapping_add(u64::from(climbs(from, to, k)));
+        downs = downs.wrapping_add(u64::from(climbs(to, from, k)));
     }
     one_apart(ups, downs)
 }
 
-fn with_if(set: u32, k: u16, b: bool) -> u32 {
-    if b { sets::with(set, k) } else { set }
-}
-
 // The enclosed cells.
-fn enclosed(corners: &[u16; CORNERS], n: usize) -> u32 {
+fn enclosed(corners: &[u16]) -> u32 {
     let mut set = 0;
     for k in 0..CELLS {
-        set = with_if(set, k, encloses(corners, n, k));
+        if encloses(corners, k) {
+            set = sets::with(set, k);
+        }
     }
     set
 }
@@ -70,9 +63,13 @@ fn gap_at(set: u32, a: u16, b: u16, c: u16) -> bool {
 
 // Some row or column has a gap.
 fn has_gap(set: u32) -> bool {
-    for t in 0..TRIPLES {
-        if gap_at(set, t % 16, t / 16 % 16, t / 256) {
-            return true;
+    for a in 0..CELLS {
+        for b in 0..CELLS {
+            for c in 0..CELLS {
+                if gap_at(set, a, b, c) {
+                    return true;
+                }
+            }
         }
     }
     false
@@ -121,9 +118,13 @@ fn held_by(set: u32, a: u16, b: u16, c: u16, x: u16) -> bool {
 
 // Some three cells of the set have the cell in their triangle. Every three are tried in every order.
 fn in_hull(set: u32, x: u16) -> bool {
-    for t in 0..TRIPLES {
-        if held_by(set, t % 16, t / 16 % 16, t / 256, x) {
-            return true;
+    for a in 0..CELLS {
+        for b in 0..CELLS {
+            for c in 0..CELLS {
+                if held_by(set, a, b, c, x) {
+                    return true;
+                }
+            }
         }
     }
     false
@@ -133,39 +134,23 @@ fn in_hull(set: u32, x: u16) -> bool {
 fn hull(set: u32) -> u32 {
     let mut filled = 0;
     for k in 0..CELLS {
-        filled = with_if(filled, k, in_hull(set, k));
+        if in_hull(set, k) {
+            filled = sets::with(filled, k);
+        }
     }
     filled
 }
 
-// A set without gaps: convex, with its anchor, or dented, with the lowest missing cell.
-fn count_hull(set: u32) -> Counted {
-    let missing = hull(set) ^ set;
-    if missing == 0 {
-        return Counted {
-            number: 0,
-            cells: set,
-            cell: cells::leftmost(set),
-        };
-    }
-    Counted {
-        number: 9,
-        cells: set,
-        cell: cells::lowest(missing),
-    }
-}
-
 // A closed walk, whichever corner it starts from.
-pub(crate) fn count(corners: &[u16; CORNERS], n: usize) -> Counted {
-    let set = enclosed(corners, n);
+pub(crate) fn count(corners: &[u16]) -> Counted {
+    let set = enclosed(corners);
     if has_gap(set) {
-        return Counted {
-            number: 8,
-            cells: set,
-            cell: NONE,
-        };
+        return Counted::Gap;
     }
-    count_hull(set)
+    match cells::lowest(hull(set) ^ set) {
+        Some(missing) => Counted::Dent(missing),
+        None => Counted::Convex(set),
+    }
 }
 
 // From p towards q, a cell lies to the right, or on the segment between them.
@@ -175,20 +160,10 @@ fn passed(p: u16, q: u16, x: u16) -> bool {
 
 // The segment from p to q is a whole edge of the hull, clockwise: no cell of the set is left of it or beyond its ends.
 fn is_edge(set: u32, p: u16, q: u16) -> bool {
-    for x in 0..CELLS {
-        if sets::has(set, x) && !passed(p, q, x) {
-            return false;
-        }
-    }
-    p != q && sets::has(set, q)
+    p != q && sets::has(set, q) && (0..CELLS).all(|x| !sets::has(set, x) || passed(p, q, x))
 }
 
-// The vertex of the hull after p, clockwise, or none.
-pub(crate) fn next_vertex(set: u32, p: u16) -> u16 {
-    for q in 0..CELLS {
-        if is_edge(set, p, q) {
-            return q;
-        }
-    }
-    NONE
+// The vertex of the hull after p, clockwise.
+pub(crate) fn next_vertex(set: u32, p: u16) -> Option<u16> {
+    (0..CELLS).find(|q| is_edge(set, p, *q))
 }

@@ -5,21 +5,32 @@ use crate::sets;
 // The block has this many corners, and no simple walk has more.
 pub(crate) const CORNERS: usize = 25;
 
-// A walk so far: its corners up to the one at `depth`, how many letters were tried from each, and the set of corners met.
+// A walk so far: its corners up to the one at `depth`, how many letters were tried from each, and the set of corners met. The corners are a
+// list of their own, as they are handed on when the walk is closed.
 #[derive(Clone, Copy)]
 pub(crate) struct Search {
     pub(crate) corners: [u16; CORNERS],
     pub(crate) tried: [u16; CORNERS],
     pub(crate) depth: usize,
     pub(crate) met: u32,
-    pub(crate) closed: bool,
-    pub(crate) done: bool,
 }
 
-// The corner at a place of a closed walk of n corners, read cyclically.
-pub(crate) fn corner_at(corners: &[u16; CORNERS], n: usize, place: usize) -> u16 {
+// What a step of the search comes to.
+#[derive(Clone, Copy)]
+pub(crate) enum Outcome {
+    // It closes the walk.
+    Closed,
+    // The search goes on.
+    Open,
+    // Every walk was found.
+    Done,
+}
+
+// The corner at a place of a closed walk, read cyclically.
+pub(crate) fn corner_at(corners: &[u16], place: usize) -> u16 {
+    let n = corners.len();
     let i = if place < n { place } else { place - n };
-    if i < CORNERS { corners[i] } else { 0 }
+    if i < n { corners[i] } else { 0 }
 }
 
 // The letter from a corner to the next.
@@ -53,65 +64,56 @@ pub(crate) fn begin(start: u16) -> Search {
         tried: [0; CORNERS],
         depth: 0,
         met: sets::with(0, start),
-        closed: false,
-        done: false,
     }
 }
 
 // All letters from the last corner were tried: goes back one corner.
-fn back(s: Search) -> Search {
-    let mut t = s;
+fn back(s: &mut Search) -> Outcome {
     let depth = s.depth;
     if 0 < depth && depth < CORNERS {
-        t.met = s.met ^ sets::with(0, s.corners[depth]);
-        t.depth = depth - 1;
+        s.met = s.met ^ sets::with(0, s.corners[depth]);
+        s.depth = depth - 1;
+        Outcome::Open
     } else {
-        t.done = true;
+        Outcome::Done
     }
-    t
 }
 
 // Goes on to the next corner.
-fn ahead(s: Search, next: u16) -> Search {
-    let mut t = s;
+fn ahead(s: &mut Search, next: u16) {
     let depth = s.depth;
     if depth < CORNERS - 1 {
-        t.corners[depth + 1] = next;
-        t.tried[depth + 1] = 0;
-        t.depth = depth + 1;
-        t.met = sets::with(s.met, next);
+        s.corners[depth + 1] = next;
+        s.tried[depth + 1] = 0;
+        s.depth = depth + 1;
+        s.met = sets::with(s.met, next);
     }
-    t
 }
 
 // A letter from the last corner: it closes the walk, leads on, or leads nowhere.
-fn follow(s: Search, at: u16, letter: u16) -> Search {
+fn follow(s: &mut Search, at: u16, letter: u16) -> Outcome {
     let next = neighbour(at, letter);
     let start = s.corners[0];
     if next == start && 3 <= s.depth {
-        let mut t = s;
-        t.closed = true;
-        return t;
+        return Outcome::Closed;
     }
     if start < next && next < OFF && !sets::has(s.met, next) {
-        return ahead(s, next);
+        ahead(s, next);
     }
-    s
+    Outcome::Open
 }
 
 // One step of the search.
-pub(crate) fn step(s: Search) -> Search {
-    let mut t = s;
-    t.closed = false;
-    let depth = t.depth;
+pub(crate) fn step(s: &mut Search) -> Outcome {
+    let depth = s.depth;
     if CORNERS <= depth {
-        t.done = true;
-        return t;
+        return Outcome::Done;
     }
-    let letter = t.tried[depth];
+    let letter = s.tried[depth];
     if 3 < letter {
-        return back(t);
+        return back(s);
     }
-    t.tried[depth] = letter + 1;
-    follow(t, t.corners[depth], letter)
+    s.tried[depth] = letter + 1;
+    let at = s.corners[depth];
+    follow(s, at, letter)
 }

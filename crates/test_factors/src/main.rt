@@ -1,7 +1,7 @@
 // Finds the factors of a table of words over 0 and 1, says which are Christoffel words, and writes a line for each word.
 #![tactic(auto)]
 
-ghost use Rattle.std.specs.Prelude.{◌<◌, ◌≤◌, IfOk, length};
+ghost use Rattle.std.specs.Prelude.{◌<◌, length};
 
 use std::io;
 
@@ -15,23 +15,7 @@ fn write_factor(rt: &impl Print, copy: &[u8], times: u32, christoffel: bool) -> 
         rt.write_all(copy)?;
         print!(rt; ")^{times}")?;
     }
-    if christoffel {
-        print!(rt; "+")
-    } else {
-        print!(rt; "-")
-    }
-}
-
-// Writes the factor that begins at `at` and returns where the next one begins.
-fn write_next(rt: &impl Print, word: &[u8], at: usize) -> io::Result<usize>
-    requires { (at < length word.now) × (length word.now < 4294967296) }
-    ensures { IfOk result (λ next. (at < next) × (next ≤ length word.now)) }
-{
-    let factor = words::factor_at(word, at, b'1');
-    let end = at + factor.length as usize;
-    write_factor(rt, &word[at..end], factor.times, factor.christoffel)?;
-    let size = factor.times * factor.length;
-    Ok(at + size as usize)
+    print!(rt; "{}", if christoffel { "+" } else { "-" })
 }
 
 // All factors of a word, in order.
@@ -39,8 +23,11 @@ fn write_factors(rt: &impl Print, word: &[u8]) -> io::Result<()>
     requires { length word.now < 4294967296 }
 {
     let mut at = 0;
-    while at < word.len() {
-        at = write_next(rt, word, at)?;
+    while let Some(factor) = words::factor_at(word, at, b'1') {
+        let end = at + factor.length as usize;
+        write_factor(rt, &word[at..end], factor.times, factor.christoffel)?;
+        let size = factor.times * factor.length;
+        at += size as usize;
     }
     Ok(())
 }

@@ -1,4 +1,4 @@
-// A script in the making: calls of eleven bytes each.
+// A script in the making: calls of eleven bytes each. A call's two numbers come one by one, as its bytes have them.
 use std::io;
 
 pub(crate) const SIZE: usize = 45056;
@@ -17,6 +17,7 @@ const LAST_TWO: u64 = 0x0909_0000;
 
 const LAST_THREE: u64 = 0x0909_0900;
 
+// The low byte. It is `wire::letter` at another width.
 fn low(n: u64) -> u8 {
     (n % 256) as u8
 }
@@ -85,7 +86,7 @@ impl Script {
     }
 
     pub(crate) fn add(&mut self, rt: &impl Print, letter: u8) -> io::Result<()> {
-        self.put(rt, 1, LAST_THREE + letter as u64, LAST_TWO)
+        self.put(rt, 1, LAST_THREE + u64::from(letter), LAST_TWO)
     }
 
     // One letter n times.

@@ -1,15 +1,14 @@
 // The calls of a script on a holder by value, each made on the holder that the one before it returned.
-ghost use Rattle.std.specs.Prelude.{◌+◌, ◌*◌, ◌≤◌, ◌<◌, length};
+ghost use Rattle.std.specs.Prelude.{◌*◌, ◌/◌, ◌≤◌, length};
 ghost use Rattle.wire.specs.Wire.{call_width, reply_width};
 
-use crate::lines::same;
 use calls::written::of_reply;
 use chart::reply;
 use chart::reply::NUMBERS;
 use holder_values::Holder;
-use wire::{BYTES, Decoded, received};
+use wire::{BYTES, received};
 
-// The next holder, and whether its reply equals the one in the list.
+// The next holder, and whether its reply equals the one in the list. The flag is an answer of its own: there is a next holder either way.
 #[derive(Clone, Copy)]
 struct Step {
     holder: Holder,
@@ -17,8 +16,7 @@ struct Step {
 }
 
 fn answer(holder: Holder, call: &[u8], expected: &[u16]) -> Step {
-    let decoded = received(call, NUMBERS);
-    let Decoded::Call(made) = decoded else {
+    let Some(made) = received(call, NUMBERS) else {
         return Step {
             holder,
             same: false,
@@ -28,7 +26,7 @@ fn answer(holder: Holder, call: &[u8], expected: &[u16]) -> Step {
     let answer = answered.reply;
     let mut numbers = [0u16; NUMBERS];
     reply::write(of_reply(answer), &mut numbers[..]);
-    let alike = same(&numbers[..], expected);
+    let alike = &numbers[..] == expected;
     let next = answered.holder;
     Step {
         holder: next,
@@ -37,12 +35,12 @@ fn answer(holder: Holder, call: &[u8], expected: &[u16]) -> Step {
 }
 
 // How many replies differ from those by value.
-pub(crate) fn differing(script: &[u8], replies: &[u16], count: usize) -> usize
-    requires { (call_width * count ≤ length script.now) × (reply_width * count ≤ length replies.now) }
+pub(crate) fn differing(script: &[u8], replies: &[u16]) -> usize
+    requires { call_width * (length replies.now / reply_width) ≤ length script.now }
 {
     let mut holder = holder_values::fresh();
     let mut others = 0;
-    for i in 0..count {
+    for i in 0..replies.len() / NUMBERS {
         let at = BYTES * i;
         let to = NUMBERS * i;
         let stepped = answer(holder, &script[at..at + BYTES], &replies[to..to + NUMBERS]);

@@ -1,45 +1,6 @@
 // Replies as lines of text.
-ghost use Rattle.std.specs.Prelude.{◌+◌, ◌*◌, ◌≤◌, ◌<◌, length};
-ghost use Rattle.chart.specs.Fields.{reply_width};
-
 use chart::reply::NUMBERS;
 use std::io;
-
-pub(crate) fn same(a: &[u16], b: &[u16]) -> bool {
-    if a.len() != b.len() {
-        return false;
-    }
-    for i in 0..a.len() {
-        if a[i] != b[i] {
-            return false;
-        }
-    }
-    true
-}
-
-// The numbers of one reply.
-fn reply(replies: &[u16], i: usize) -> &[u16]
-    requires { reply_width * i + reply_width ≤ length replies.now }
-{
-    let from = NUMBERS * i;
-    let to = from + NUMBERS;
-    &replies[from..to]
-}
-
-// Where the replies equal to the one at `i` end.
-fn run_end(replies: &[u16], i: usize, count: usize) -> usize
-    requires { (i < count) × (reply_width * count ≤ length replies.now) }
-    ensures { (i < result) × (result ≤ count) }
-{
-    let mut end = i + 1;
-    while end < count {
-        if !same(reply(replies, i), reply(replies, end)) {
-            return end;
-        }
-        end += 1;
-    }
-    end
-}
 
 fn write_number(rt: &impl Print, n: u16) -> io::Result<()> {
     print!(rt; "{n}")
@@ -56,19 +17,15 @@ pub(crate) fn write_numbers(rt: &impl Print, list: &[u16]) -> io::Result<()> {
 }
 
 // A line for each reply. Equal replies in a row share one line with their count.
-pub(crate) fn write_replies(rt: &impl Print, replies: &[u16], count: usize) -> io::Result<()>
-    requires { reply_width * count ≤ length replies.now }
-{
-    let mut i = 0;
-    while i < count {
-        let end = run_end(replies, i, count);
-        write_numbers(rt, reply(replies, i))?;
-        if i + 1 < end {
-            let times = end - i;
+pub(crate) fn write_replies(rt: &impl Print, replies: &[u16]) -> io::Result<()> {
+    let (replies, _) = replies.as_chunks::<NUMBERS>();
+    for run in replies.chunk_by(|one, next| one == next) {
+        write_numbers(rt, &run[0])?;
+        let times = run.len();
+        if 1 < times {
             print!(rt; ", {times} times")?;
         }
         println!(rt)?;
-        i = end;
     }
     Ok(())
 }

@@ -2,7 +2,7 @@
 ghost use Rattle.std.specs.Prelude.{◌≤◌};
 
 use crate::build::Script;
-use crate::fields::{NO_NUMBER, digit, field, next, number, same};
+use crate::fields::{NO_NUMBER, digit, field, number};
 use std::io;
 
 // The names, the nine calls first in the order of their numbers.
@@ -18,17 +18,12 @@ const LETTERS: usize = 11;
 
 const OUTLINE: usize = 12;
 
-const NAMES: usize = 13;
-
-// The index of a name, NAMES if it is none of them.
-fn index(name: &[u8]) -> usize {
+// The index of a name.
+fn index(name: &[u8]) -> Option<usize> {
     let names = b"begin add drop clear close query row reading piece at times letters outline";
-    for i in 0..NAMES {
-        if same(name, field(names, i)) {
-            return i;
-        }
-    }
-    NAMES
+    names
+        .split(|byte| *byte == b' ')
+        .position(|other| other == name)
 }
 
 // How many fields follow a name.
@@ -47,7 +42,7 @@ fn fields_after(name: usize) -> usize
 fn whole(line: &[u8], count: usize) -> bool
     requires { count ≤ 3 }
 {
-    0 < field(line, count).len() && field(line, count + 1).len() == 0
+    !field(line, count).is_empty() && field(line, count + 1).is_empty()
 }
 
 // The number in a field, 0 where the name takes no such field.
@@ -106,12 +101,13 @@ fn append(
 
 // Appends the calls of a line. A line that cannot be read is written out.
 fn append_line(rt: &impl Print, s: &mut Script, line: &[u8]) -> io::Result<()> {
-    let name = index(field(line, 0));
-    let count = fields_after(name);
-    let x = argument(line, 1, name);
-    let y = argument(line, 2, name);
-    if name < NAMES && whole(line, count) && fits(name, x, y) {
-        return append(rt, s, name, x, y, field(line, count));
+    if let Some(name) = index(field(line, 0)) {
+        let count = fields_after(name);
+        let x = argument(line, 1, name);
+        let y = argument(line, 2, name);
+        if whole(line, count) && fits(name, x, y) {
+            return append(rt, s, name, x, y, field(line, count));
+        }
     }
     print!(rt; "cannot be read: ")?;
     rt.write_all(line)?;
@@ -120,23 +116,16 @@ fn append_line(rt: &impl Print, s: &mut Script, line: &[u8]) -> io::Result<()> {
 
 // Whether a line is empty or a comment.
 fn silent(line: &[u8]) -> bool {
-    line.len() == 0 || line[0] == b'#'
+    line.is_empty() || line[0] == b'#'
 }
 
 // The script of a text.
 pub(crate) fn script(rt: &impl Print, text: &[u8]) -> io::Result<Script> {
     let mut s = Script::new();
-    let mut at = 0;
-    while at < text.len() {
-        let end = next(text, at, b'\n');
-        let line = &text[at..end];
+    for line in text.split(|byte| *byte == b'\n') {
         if !silent(line) {
             append_line(rt, &mut s, line)?;
         }
-        if end == text.len() {
-            return Ok(s);
-        }
-        at = end + 1;
     }
     Ok(s)
 }

@@ -1,4 +1,5 @@
-// Makes a fixed list of calls on a pile, and writes each reply as a line of seven numbers.
+// Makes a fixed list of calls on a pile, and writes each reply as a line of seven numbers. A column and a row stay two numbers: each call
+// is a line of numbers here.
 #![tactic(auto)]
 
 use chart::{Fields, Point};
@@ -6,34 +7,21 @@ use pile_calls::{Pile, Piled, fresh};
 use pile_replies::of_reply;
 use std::io;
 
-fn number(rt: &impl Print, n: u16) -> io::Result<()> {
-    print!(rt; "{n}")
-}
-
-fn space(rt: &impl Print) -> io::Result<()> {
-    print!(rt; " ")
-}
-
-fn line(rt: &impl Print, f: Fields) -> io::Result<()> {
-    number(rt, f.number)?;
-    space(rt)?;
-    number(rt, f.word)?;
-    space(rt)?;
-    number(rt, f.place)?;
-    space(rt)?;
-    number(rt, f.piece)?;
-    space(rt)?;
-    number(rt, f.length)?;
-    space(rt)?;
-    number(rt, f.col)?;
-    space(rt)?;
-    number(rt, f.row)?;
-    println!(rt)
+fn line(rt: &impl Print, fields: Fields) -> io::Result<()> {
+    let Fields {
+        number,
+        word,
+        place,
+        piece,
+        length,
+        col,
+        row,
+    } = fields;
+    println!(rt; "{number} {word} {place} {piece} {length} {col} {row}")
 }
 
 fn printed(rt: &impl Print, piled: Piled) -> io::Result<Pile> {
-    let answer = piled.reply;
-    line(rt, of_reply(answer))?;
+    line(rt, of_reply(piled.reply))?;
     Ok(piled.pile)
 }
 

@@ -7,23 +7,6 @@ use chart::reply::NUMBERS;
 use chart::{Fields, LONGEST, MOST_NUMBERS, Point, reply};
 use std::io;
 
-// The absolute value.
-fn size(x: i16) -> u64 {
-    if x < 0 {
-        (0 - (x as i64)) as u64
-    } else {
-        x as u64
-    }
-}
-
-fn write_signed(rt: &impl Print, x: i16) -> io::Result<()> {
-    if x < 0 {
-        print!(rt; "-")?;
-    }
-    let size = size(x);
-    print!(rt; "{size}")
-}
-
 fn write_number(rt: &impl Print, n: u16) -> io::Result<()> {
     print!(rt; " {n}")
 }
@@ -33,22 +16,12 @@ fn write_cell(rt: &impl Print, cell: Point) -> io::Result<()> {
     print!(rt; " ({col}, {row})")
 }
 
-// The edge at index k, if the list has one.
-fn write_edge(rt: &impl Print, list: &[i16], k: usize) -> io::Result<()> {
-    if k < list.len() / 2 {
-        print!(rt; " (")?;
-        write_signed(rt, list[2 * k])?;
-        print!(rt; ", ")?;
-        write_signed(rt, list[2 * k + 1])?;
-        print!(rt; ")")?;
-    }
-    Ok(())
-}
-
 // The first edges of a list.
 fn write_edges(rt: &impl Print, list: &[i16], count: usize) -> io::Result<()> {
-    for k in 0..count {
-        write_edge(rt, list, k)?;
+    for edge in list.chunks_exact(2).take(count) {
+        if let [dx, dy] = edge {
+            print!(rt; " ({dx}, {dy})")?;
+        }
     }
     Ok(())
 }
@@ -71,7 +44,7 @@ fn write_fields(rt: &impl Print, fields: Fields) -> io::Result<()> {
 // Tests an outline and writes its line.
 fn write_test(rt: &impl Print, name: &str, start: Point, letters: &[u8]) -> io::Result<()> {
     let mut edges = [0i16; MOST_NUMBERS];
-    let fields = reply::of_verdict(outline::test(start, letters, &mut edges));
+    let fields = Fields::from(outline::test(start, letters, &mut edges));
     print!(rt; "{name}:")?;
     write_fields(rt, fields)?;
     if fields.number == 0 {
@@ -86,12 +59,10 @@ fn read_letters(digits: &[u8], letters: &mut [u8]) -> usize
     ensures within { result ≤ length letters.new }
     ensures prefix { result ≡ length (take result letters.new) }
 {
-    let mut i = 0;
-    while i < digits.len() && i < letters.len() {
-        letters[i] = digits[i] % 16;
-        i += 1;
+    for (letter, digit) in letters.iter_mut().zip(digits) {
+        *letter = *digit % 16;
     }
-    i
+    digits.len().min(letters.len())
 }
 
 // A specimen whose letters are written as digits, at most 16 of them.
@@ -143,7 +114,7 @@ fn write_query(
     edges: &[i16],
     cell: Point,
 ) -> io::Result<()> {
-    let fields = reply::of_position(polygon::loose_query(anchor, edges, cell));
+    let fields = Fields::from(polygon::loose_query(anchor, edges, cell));
     print!(rt; "{name}, cell")?;
     write_cell(rt, cell)?;
     print!(rt; ":")?;

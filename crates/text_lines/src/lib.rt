@@ -19,6 +19,9 @@ pub struct Line {
     pub place: usize,
 }
 
+// A buffer and a place in it go with each of these functions. A struct that holds the buffer is no plainer: each of its methods would also
+// have to promise that it keeps the same reference.
+
 // Writes a byte if there is room for it, and returns where the next one goes.
 fn put(byte: u8, text: &mut [u8], at: usize) -> usize
     ensures { Wrote (byte ∷ []) at text.old text.new result }

@@ -1,20 +1,18 @@
 -- 8 is checked of an outline that passes 1 to 6, and its search goes along the pieces and along the letters of a piece. So it finds the
 -- first letter that is neither of its piece's two.
+use Rattle.std.specs.Prelude.{Err}
 use Prim.Native.Nat.{ℕ, suc, ◌+◌, ◌%◌, ◌≤◌, ◌<◌}
 use native.Mathlib.Nat.{mod-lt}
 use native.Mathlib.Omega.{arith}
 use native.Mathlib.Decide.{dec_lt}
 use mathlib.Core.Path.{◌≡◌, refl, sym, ap, ◌∙◌, subst}
-use mathlib.Core.Logic.{◌↔◌, ◌⊎◌, inl, inr, ⊎_elim}
+use mathlib.Core.Logic.{◌↔◌, inl, inr, ⊎_elim}
 use mathlib.Core.Bool.{Bool, true, false, not, ◌||◌, true≢false}
-use mathlib.Core.List.{List}
 use lib.ListN.{length}
 use lib.Dec.{ltb, eqb}
 use borrow.Author.Tests.{lt-ltb, le-ltb, ltb-true, ltb-false, eqb-true, eq-eqb}
 use Rattle.base.proofs.BelowLaws.{first-le, first_found, first-before, first-none, first-none-at, first-is}
-use Rattle.chart.specs.declared.Refusal.{Refusal}
 use Rattle.chart.specs.declared.Refusal.TheVariants.{BackStep}
-use Rattle.chart.specs.declared.Verdict.TheVariants.{Refused}
 use Rattle.chart.specs.Outline.{Outline}
 use Rattle.lattice.specs.Chart.{size}
 use Rattle.lattice.specs.Refusals.{Simple}
@@ -22,7 +20,7 @@ use Rattle.lattice.proofs.WalkLaws.{walked}
 use Rattle.survey.proofs.SurveyLaws.{survey-passed}
 use Rattle.convexity.specs.Frame.{frame_of}
 use Rattle.convexity.specs.Clockwise.{border, place_sent}
-use Rattle.convexity.specs.Pieces.{piece, is_back_step, back_step_at, back_step_piece, Reaches}
+use Rattle.convexity.specs.Pieces.{is_back_step, back_step_at, back_step_piece, Reaches}
 use Rattle.convexity.proofs.Places.{place-round, place_read}
 use Rattle.verdict.specs.Verdict.{back_step_in, dent_in, verdict_of}
 use Rattle.verdict.specs.parts.Chain.{round_verdict, border_verdict, after_survey}
@@ -88,11 +86,11 @@ module _ (o : Outline) where
 
   module _ (h : Simple o) where
     -- After 1 to 6 the back-steps decide
-    verdict-eight : back_step_piece t < 4 → verdict_of o ≡ Refused (back_step_in (place_sent o) t (back_step_piece t))
+    verdict-eight : back_step_piece t < 4 → verdict_of o ≡ Err (back_step_in (place_sent o) t (back_step_piece t))
     unfolding border_verdict round_verdict after_survey
     verdict-eight l = rw (verdict-chain o, ← survey-passed o h, lt-ltb (back_step_piece t) 4 l)
 
-    eight-of-first : (p i : ℕ) → FirstBackStep o p i → verdict_of o ≡ Refused (BackStep p i)
+    eight-of-first : (p i : ℕ) → FirstBackStep o p i → verdict_of o ≡ Err (BackStep p i)
     unfolding back_step_piece back_step_in back_step_at
     eight-of-first p i f =
         let k : ℕ = f.k in
@@ -107,10 +105,10 @@ module _ (o : Outline) where
         let place : place_sent o (piece_cut o k + back_step_at t k) ≡ i =
         ap (λ (n : ℕ). place_sent o (piece_cut o k + n)) at ∙ sym f.place in
         verdict-eight (omega (arith, f.below))
-        ∙ ap (λ (j : ℕ). Refused (back_step_in (place_sent o) t j)) first
-        ∙ ap Refused (λ j. BackStep (piece j) (place j))
+        ∙ ap (λ (j : ℕ). Err (back_step_in (place_sent o) t j)) first
+        ∙ ap Err (λ j. BackStep (piece j) (place j))
 
-    first-of-eight : (p i : ℕ) → verdict_of o ≡ Refused (BackStep p i) → FirstBackStep o p i
+    first-of-eight : (p i : ℕ) → verdict_of o ≡ Err (BackStep p i) → FirstBackStep o p i
     unfolding back_step_piece back_step_in back_step_at dent_of dent_in
     first-of-eight p i e = elim (dec_lt (back_step_piece t) 4) [ yes l ↦ found l | no l ↦ absurd (straight (omega arith)) ]
       where
@@ -144,5 +142,5 @@ module _ (o : Outline) where
             }
 
     -- An outline that passes 1 to 6 is refused by 8 with these fields exactly when they are those of its first back-step
-    pub eight-iff-first-back-step : (p i : ℕ) → (verdict_of o ≡ Refused (BackStep p i)) ↔ FirstBackStep o p i
+    pub eight-iff-first-back-step : (p i : ℕ) → (verdict_of o ≡ Err (BackStep p i)) ↔ FirstBackStep o p i
     eight-iff-first-back-step p i = (first-of-eight p i, eight-of-first p i)

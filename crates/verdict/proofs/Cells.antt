@@ -1,4 +1,5 @@
 -- What a reply tells about the cells: the facts of each answer (VerdictLaws), combined with the convexity theorem for the same outline.
+use Rattle.std.specs.Prelude.{Result, Ok, Err}
 use Prim.Native.Nat.{ℕ, ◌*◌, ◌<◌}
 use mathlib.Core.Path.{◌≡◌, refl, sym, ◌∙◌, ap}
 use mathlib.Core.Logic.{⊎_elim, ◌↔◌}
@@ -9,10 +10,12 @@ use native.Mathlib.Decide.{dec_lt}
 use native.Mathlib.Omega.{arith}
 use Rattle.chart.specs.Limits.{side}
 use Rattle.chart.specs.declared.Point.{Point}
-use Rattle.chart.specs.declared.Verdict.{Verdict}
-use Rattle.chart.specs.declared.Verdict.TheVariants.{Taken, Refused}
+use Rattle.chart.specs.declared.Refusal.{Refusal}
+use Rattle.chart.specs.declared.Taken.{Taken}
+use Rattle.chart.specs.Taken.{taken_with}
 use Rattle.chart.specs.Outline.{Outline}
 use Rattle.chart.specs.Fields.{verdict_fields}
+use Rattle.chart.proofs.TakenLaws.{verdict_number}
 use Rattle.lattice.specs.Hull.{Missing, LowestMissing}
 use Rattle.convexity.specs.Clockwise.{border, block}
 use Rattle.convexity.specs.Pieces.{Reaches, IsAnchor, edges}
@@ -40,17 +43,19 @@ module _ (o : Outline) where
       let nine = nine-iff-missing r in
       (λ e. nine.0 (judged (verdict_of o) refl e), λ x. tested (verdict_of o) refl (nine.1 x))
     where
-      judged : (v : Verdict) → verdict_of o ≡ v → (verdict_fields (test_of o m)).number ≡ 9 → (verdict_fields (verdict_of o)).number ≡ 9
-      judged (Refused f) e n = ap (λ (v : Verdict). (verdict_fields v).number) (e ∙ sym (test-refused o m f e)) ∙ n
-      judged (Taken k a) e n =
-          elim (dec_lt m (2 * k)) [
-            | yes h ↦ absurd (omega (arith, n, ap (λ (v : Verdict). (verdict_fields v).number) (test_short o m k a e h)))
-            | no h ↦ absurd (omega (arith, n, ap (λ (v : Verdict). (verdict_fields v).number) (test-taken o m k a e (omega arith))))
+      judged : (v : Result Taken Refusal) → verdict_of o ≡ v → (verdict_fields (test_of o m)).number ≡ 9
+          → (verdict_fields (verdict_of o)).number ≡ 9
+      judged (Err f) e n = ap verdict_number (e ∙ sym (test-refused o m f e)) ∙ n
+      judged (Ok t) e n =
+          elim (dec_lt m (2 * t.edges)) [
+            | yes h ↦ absurd (omega (arith, n, ap verdict_number (test_short o m t.edges t.anchor e h)))
+            | no h ↦ absurd (omega (arith, n, ap verdict_number (test-taken o m t.edges t.anchor e (omega arith))))
           ]
 
-      tested : (v : Verdict) → verdict_of o ≡ v → (verdict_fields (verdict_of o)).number ≡ 9 → (verdict_fields (test_of o m)).number ≡ 9
-      tested (Refused f) e n = ap (λ (v : Verdict). (verdict_fields v).number) (test-refused o m f e ∙ sym e) ∙ n
-      tested (Taken k a) e n = absurd (omega (arith, n, ap (λ (v : Verdict). (verdict_fields v).number) e))
+      tested : (v : Result Taken Refusal) → verdict_of o ≡ v → (verdict_fields (verdict_of o)).number ≡ 9
+          → (verdict_fields (test_of o m)).number ≡ 9
+      tested (Err f) e n = ap verdict_number (test-refused o m f e ∙ sym e) ∙ n
+      tested (Ok t) e n = absurd (omega (arith, n, ap verdict_number e))
 
   -- The cell in the reply: the lowest missing one if refused by 9, and the anchor if the outline is taken
   pub verdict-named : CellNamed o (verdict_fields (verdict_of o))
@@ -78,17 +83,18 @@ module _ (o : Outline) where
       same : test_of o m ≡ verdict_of o → CellNamed o (verdict_fields (test_of o m))
       same e = rw e verdict-named
 
-      go : (v : Verdict) → verdict_of o ≡ v → CellNamed o (verdict_fields (test_of o m))
-      go (Refused f) e = same (test-refused o m f e ∙ sym e)
-      go (Taken n a) e =
-          elim (dec_lt m (2 * n)) [
+      go : (v : Result Taken Refusal) → verdict_of o ≡ v → CellNamed o (verdict_fields (test_of o m))
+      go (Err f) e = same (test-refused o m f e ∙ sym e)
+      go (Ok t) e =
+          elim (dec_lt m (2 * t.edges)) [
             | yes h ↦
-                rw (test_short o m n a e h) (record { anchor = λ z. absurd (omega (arith, z)); missing = λ z. absurd (omega (arith, z)) })
-            | no h ↦ same (test-taken o m n a e (omega arith) ∙ sym e)
+                rw (test_short o m t.edges t.anchor e h)
+                (record { anchor = λ z. absurd (omega (arith, z)); missing = λ z. absurd (omega (arith, z)) })
+            | no h ↦ same (test-taken o m t.edges t.anchor e (omega arith) ∙ sym e)
           ]
 
   -- The anchor and the edges in the buffer of a taken outline decide which cells are enclosed
-  pub taken-answers : (buffer : List ℤ) (n : ℕ) (a : Point) → test_of o (length buffer) ≡ Taken n a → (x : Point) → x.col < side
+  pub taken-answers : (buffer : List ℤ) (n : ℕ) (a : Point) → test_of o (length buffer) ≡ taken_with n a → (x : Point) → x.col < side
       → x.row < side
       → inside_edges a (take (2 * n) (edges_after o buffer)) x ≡ block o x.col x.row
   taken-answers buffer n a e x i j =

@@ -1,5 +1,6 @@
 -- Back-steps are dents too: an outline that passes 1 to 6 is refused by 8 or 9 exactly if a cell is missing, because a back-step leaves a
 -- missing cell, and without one an outline has a missing cell exactly if it is dented.
+use Rattle.std.specs.Prelude.{Result, Ok, Err}
 use Prim.Native.Nat.{ℕ, ◌*◌, ◌≤◌, ◌<◌}
 use native.Mathlib.Omega.{arith}
 use native.Mathlib.Decide.{dec_lt}
@@ -8,10 +9,12 @@ use mathlib.Core.Logic.{◌⊎◌, inl, inr, ⊎_elim, ◌↔◌}
 use lib.Dec.{lit<, lit≤}
 use borrow.Author.Tests.{le-ltb}
 use Rattle.chart.specs.declared.Point.{Point}
-use Rattle.chart.specs.declared.Verdict.{Verdict}
-use Rattle.chart.specs.declared.Verdict.TheVariants.{Taken, Refused}
+use Rattle.chart.specs.declared.Refusal.{Refusal}
+use Rattle.chart.specs.declared.Taken.{Taken}
+use Rattle.chart.specs.Taken.{taken_with}
 use Rattle.chart.specs.Outline.{Outline}
-use Rattle.chart.specs.Fields.{refusal_fields, verdict_fields}
+use Rattle.chart.specs.Fields.{refusal_fields}
+use Rattle.chart.proofs.TakenLaws.{verdict_number}
 use Rattle.lattice.specs.Hull.{Missing, Convex}
 use Rattle.lattice.specs.Refusals.{Simple}
 use Rattle.convexity.specs.Clockwise.{border, block}
@@ -23,20 +26,16 @@ use Rattle.verdict.specs.Dents.{Dented, dent_of}
 use Rattle.verdict.proofs.VerdictLaws.{past_eight, Early, simple-or-early, reaches-or-early, reaches_of, dented-or-not}
 use Rattle.verdict.proofs.VerdictLaws.{verdict-dented, verdict-taken, nine-of-dented, test-refused, test_short, test-taken}
 
--- The number of a verdict
-abbrev number : Verdict → ℕ
-number v = (verdict_fields v).number
-
 module _ (o : Outline) where
   -- An outline that passes 1 to 8 is refused by 9 or taken
-  not_eight : Reaches o → number (verdict_of o) ≡ 8 → ⊥
+  not_eight : Reaches o → verdict_number (verdict_of o) ≡ 8 → ⊥
   not_eight r e =
       ⊎_elim (λ d. omega (arith, e, nine-of-dented o (record { reaches = r; dented = d })))
-      (λ u. omega (arith, e, ap number (verdict-taken o r u))) (dented-or-not (border o))
+      (λ u. omega (arith, e, ap verdict_number (verdict-taken o r u))) (dented-or-not (border o))
 
   -- Every outline that 8 refuses has a missing cell (contract 8.5)
-  pub eight-missing : number (verdict_of o) ≡ 8 → (x : Point) × Missing (block o) x
-  eight-missing e = ⊎_elim stepped (λ s. absurd (omega (arith, e, s.early, ap number s.answer))) (simple-or-early o)
+  pub eight-missing : verdict_number (verdict_of o) ≡ 8 → (x : Point) × Missing (block o) x
+  eight-missing e = ⊎_elim stepped (λ s. absurd (omega (arith, e, s.early, ap verdict_number s.answer))) (simple-or-early o)
     where
       stepped : Simple o → (x : Point) × Missing (block o) x
       stepped h =
@@ -46,11 +45,11 @@ module _ (o : Outline) where
           ]
 
   -- An outline that passes 1 to 6 is taken exactly if no cell is missing
-  pub taken-iff-convex : Simple o → (number (verdict_of o) ≡ 0) ↔ Convex (block o)
+  pub taken-iff-convex : Simple o → (verdict_number (verdict_of o) ≡ 0) ↔ Convex (block o)
   unfolding past_eight
   taken-iff-convex h = (λ e. (passes-iff-convex o h).0 (passed e), taken)
     where
-      passed : number (verdict_of o) ≡ 0 → (back_step_piece (border o) ≡ 4) × (dent_piece (border o) ≡ 4)
+      passed : verdict_number (verdict_of o) ≡ 0 → (back_step_piece (border o) ≡ 4) × (dent_piece (border o) ≡ 4)
       passed e =
           let r : Reaches o = reaches_of o (rw e) in (
             straight-of (border o) r.straight,
@@ -58,10 +57,10 @@ module _ (o : Outline) where
                 (dented-or-not (border o)),
           )
 
-      taken : Convex (block o) → number (verdict_of o) ≡ 0
+      taken : Convex (block o) → verdict_number (verdict_of o) ≡ 0
       taken full =
           let (s, u) = (passes-iff-convex o h).1 full in
-          ap number (verdict-taken o (record { simple = h; straight = le-ltb (back_step_piece (border o)) 4 (omega (arith, s)) }) u)
+          ap verdict_number (verdict-taken o (record { simple = h; straight = le-ltb (back_step_piece (border o)) 4 (omega (arith, s)) }) u)
 
   -- ---- the test
 
@@ -70,17 +69,17 @@ module _ (o : Outline) where
   unfolding test_fields
   test-eight-missing m e = go (verdict_of o) refl
     where
-      go : (v : Verdict) → verdict_of o ≡ v → (x : Point) × Missing (block o) x
-      go (Refused f) q = eight-missing (ap number (q ∙ sym (test-refused o m f q)) ∙ e)
-      go (Taken n a) q =
-          elim (dec_lt m (2 * n)) [
-            | yes l ↦ absurd (omega (arith, e, ap number (test_short o m n a q l)))
-            | no l ↦ absurd (omega (arith, e, ap number (test-taken o m n a q (omega arith))))
+      go : (v : Result Taken Refusal) → verdict_of o ≡ v → (x : Point) × Missing (block o) x
+      go (Err f) q = eight-missing (ap verdict_number (q ∙ sym (test-refused o m f q)) ∙ e)
+      go (Ok t) q =
+          elim (dec_lt m (2 * t.edges)) [
+            | yes l ↦ absurd (omega (arith, e, ap verdict_number (test_short o m t.edges t.anchor q l)))
+            | no l ↦ absurd (omega (arith, e, ap verdict_number (test-taken o m t.edges t.anchor q (omega arith))))
           ]
 
   -- The outline is taken, with its own edges and anchor
   abbrev IsTaken : Type 0
-  IsTaken = verdict_of o ≡ Taken (edge_count (border o)) (border o).start
+  IsTaken = verdict_of o ≡ taken_with (edge_count (border o)) (border o).start
 
   -- Every outline is taken, or refused by one of 1 to 9
   taken-or-early : IsTaken ⊎ Early 9 (verdict_of o)
@@ -100,19 +99,19 @@ module _ (o : Outline) where
     -- The number of the test with a buffer of m numbers: for a taken outline only room is checked
     with-room : IsTaken → 2 * edge_count (border o) ≤ m → (test_fields o m).number ≡ 0
     unfolding test_fields
-    with-room e room = ap number (test-taken o m (edge_count (border o)) (border o).start e room)
+    with-room e room = ap verdict_number (test-taken o m (edge_count (border o)) (border o).start e room)
 
     without-room : IsTaken → m < 2 * edge_count (border o) → (test_fields o m).number ≡ 10
     unfolding test_fields
-    without-room e l = ap number (test_short o m (edge_count (border o)) (border o).start e l)
+    without-room e l = ap verdict_number (test_short o m (edge_count (border o)) (border o).start e l)
 
     -- A refusal by 1 to 9 is the same for every buffer, and after 1 to 6 it means that a cell is missing
     early-number : (e : Early 9 (verdict_of o)) → (test_fields o m).number ≡ (refusal_fields e.refusal).number
     unfolding test_fields
-    early-number e = ap number (test-refused o m e.refusal e.answer)
+    early-number e = ap verdict_number (test-refused o m e.refusal e.answer)
 
     not_full : Early 9 (verdict_of o) → Convex (block o) → ⊥
-    not_full e full = omega (arith, e.above_zero, ap number e.answer, (taken-iff-convex h).1 full)
+    not_full e full = omega (arith, e.above_zero, ap verdict_number e.answer, (taken-iff-convex h).1 full)
 
     -- With any buffer, the number of an outline that passes 1 to 6 is 0 or 10 exactly if no cell is missing
     pub test-passes-iff-convex : (((test_fields o m).number ≡ 0) ⊎ ((test_fields o m).number ≡ 10)) ↔ Convex (block o)
@@ -120,7 +119,7 @@ module _ (o : Outline) where
       where
         taken : IsTaken → (((test_fields o m).number ≡ 0) ⊎ ((test_fields o m).number ≡ 10)) ↔ Convex (block o)
         taken e = (
-          λ n. (taken-iff-convex h).0 (ap number e),
+          λ n. (taken-iff-convex h).0 (ap verdict_number e),
           λ full. elim (dec_lt m (2 * edge_count (border o))) [
             | yes l ↦ inr (without-room e l)
             | no l ↦ inl (with-room e (omega arith))
@@ -140,7 +139,7 @@ module _ (o : Outline) where
         taken : IsTaken → ((test_fields o m).number ≡ 0) ↔ (Convex (block o) × (2 * edge_count (border o) ≤ m))
         taken e = (
           λ z. (
-            (taken-iff-convex h).0 (ap number e),
+            (taken-iff-convex h).0 (ap verdict_number e),
             elim (dec_lt m (2 * edge_count (border o))) [
               | yes l ↦ absurd (omega (arith, z, without-room e l))
               | no l ↦ omega arith

@@ -1,11 +1,12 @@
 -- A block gets the same verdict wherever its outline is started and in whichever direction it is drawn: 8, 9 and "taken" depend on the
 -- border, which the block determines, and only places depend on the list as sent.
+use Rattle.std.specs.Prelude.{Err}
 use Prim.Native.Nat.{ℕ}
 use native.Mathlib.Omega.{arith}
 use mathlib.Core.Path.{◌≡◌, refl, ap}
 use mathlib.Core.Bool.{Bool, true, false, cond}
 use lib.Dec.{ltb}
-use Rattle.chart.specs.declared.Verdict.TheVariants.{Taken, Refused}
+use Rattle.chart.specs.Taken.{taken_with}
 use Rattle.chart.specs.Outline.{Outline}
 use Rattle.chart.specs.Fields.{verdict_fields}
 use Rattle.lattice.specs.Refusals.{Simple}
@@ -29,10 +30,10 @@ said-alike p q t = go (ltb (back_step_piece t) 4) (ltb (dent_piece t) 4)
     go :
         (b d : Bool) →
         SameButPlace
-        (verdict_fields (cond b (Refused (back_step_in p t (back_step_piece t)))
-        (cond d (Refused (dent_in p t (dent_piece t))) (Taken (edge_count t) t.start))))
-        (verdict_fields (cond b (Refused (back_step_in q t (back_step_piece t)))
-        (cond d (Refused (dent_in q t (dent_piece t))) (Taken (edge_count t) t.start))))
+        (verdict_fields (cond b (Err (back_step_in p t (back_step_piece t)))
+        (cond d (Err (dent_in p t (dent_piece t))) (taken_with (edge_count t) t.start))))
+        (verdict_fields (cond b (Err (back_step_in q t (back_step_piece t)))
+        (cond d (Err (dent_in q t (dent_piece t))) (taken_with (edge_count t) t.start))))
     go true d =
         record { number = refl; word = refl; piece = refl; same_length = refl; col = refl; row = refl; edges = λ z. absurd (omega arith) }
     go false true =

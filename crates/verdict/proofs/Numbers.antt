@@ -1,4 +1,5 @@
 -- The test is a list of refusals, so its number is one of theirs or 0. With room for every taken outline it is not 10.
+use Rattle.std.specs.Prelude.{Result, Ok, Err}
 use Prim.Native.Nat.{ℕ, ◌-◌, ◌*◌}
 use mathlib.Core.Path.{◌≡◌, refl}
 use mathlib.Core.Bool.{Bool, true, false, cond}
@@ -6,8 +7,8 @@ use lib.Dec.{ltb, eqb}
 use borrow.Author.Tests.{le-ltb, eqb-false}
 use Rattle.chart.specs.declared.Refusal.{Refusal}
 use Rattle.chart.specs.declared.Refusal.TheVariants.{Length, Start, Letter, OffChart, NotClosed, Touches, EdgeList}
-use Rattle.chart.specs.declared.Verdict.{Verdict}
-use Rattle.chart.specs.declared.Verdict.TheVariants.{Taken, Refused}
+use Rattle.chart.specs.declared.Taken.{Taken}
+use Rattle.chart.specs.Taken.{taken_with}
 use Rattle.chart.specs.Limits.{most_numbers}
 use Rattle.chart.specs.Outline.{Outline}
 use Rattle.chart.specs.Fields.{refusal_fields, verdict_fields}
@@ -20,16 +21,16 @@ use Rattle.verdict.proofs.VerdictLaws.{taken-fits}
 
 module _ (P : ℕ → Type 0) where
   -- One refusal of the list: it applies, or the rest of the list decides
-  link : (b : Bool) (f : Refusal) (v : Verdict) → (b ≡ true → P (refusal_fields f).number) → P (verdict_fields v).number
-      → P (verdict_fields (cond b (Refused f) v)).number
+  link : (b : Bool) (f : Refusal) (v : Result Taken Refusal) → (b ≡ true → P (refusal_fields f).number) → P (verdict_fields v).number
+      → P (verdict_fields (cond b (Err f) v)).number
   link true f v p q = p refl
   link false f v p q = q
 
-  room-link : (o : Outline) (v : Verdict) → verdict_of o ≡ v → P (verdict_fields v).number
+  room-link : (o : Outline) (v : Result Taken Refusal) → verdict_of o ≡ v → P (verdict_fields v).number
       → P (verdict_fields (with_room most_numbers v)).number
   unfolding with_room
-  room-link o (Refused f) e p = p
-  room-link o (Taken n a) e p = rw (le-ltb most_numbers (2 * n) (taken-fits o n a e)) p
+  room-link o (Err f) e p = p
+  room-link o (Ok t) e p = rw (le-ltb most_numbers (2 * t.edges) (taken-fits o t.edges t.anchor e)) p
 
   -- What holds for 0, for 1 to 6 and for 8 and 9 holds for the number of a verdict. 2 needs a start off the chart
   pub verdict-number : (o : Outline) → P 0 → P 1 → (bad_start o.start ≡ true → P 2) → P 3 → P 4 → P 5 → P 6 → P 8 → P 9
@@ -55,9 +56,9 @@ module _ (P : ℕ → Type 0) where
   unfolding test_fields test_of with_room
   short-number o room p q = short (verdict_of o) p
     where
-      short : (v : Verdict) → P (verdict_fields v).number → P (verdict_fields (with_room room v)).number
-      short (Refused f) r = r
-      short (Taken n a) r = link (ltb room (2 * n)) (EdgeList n) (Taken n a) (λ e. q) r
+      short : (v : Result Taken Refusal) → P (verdict_fields v).number → P (verdict_fields (with_room room v)).number
+      short (Err f) r = r
+      short (Ok t) r = link (ltb room (2 * t.edges)) (EdgeList t.edges) (taken_with t.edges t.anchor) (λ e. q) r
 
 -- 7 is no test's number (contract 5.4)
 pub seven-never : (o : Outline) (room : ℕ) → (test_fields o room).number ≡ 7 → ⊥

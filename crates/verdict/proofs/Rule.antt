@@ -1,5 +1,6 @@
 -- The verdict follows the published rule because a word has only one factorisation, so the computed factors are the factors, and the test
 -- for Christoffel words passes exactly those; so the first piece and the first factor that fail it are the ones that 9 names.
+use Rattle.std.specs.Prelude.{Err}
 use Prim.Native.Nat.{ℕ, ◌+◌, ◌<◌}
 use native.Mathlib.Numerals.{add-one}
 use native.Mathlib.Omega.{arith}
@@ -19,7 +20,7 @@ use Rattle.words.proofs.Counts.{length-copies}
 use Rattle.words.proofs.Christoffel.{christoffel-iff}
 use Rattle.chart.specs.declared.Point.{Point}
 use Rattle.chart.specs.declared.Refusal.TheVariants.{Dent}
-use Rattle.chart.specs.declared.Verdict.TheVariants.{Taken, Refused}
+use Rattle.chart.specs.Taken.{taken_with}
 use Rattle.chart.specs.Outline.{Outline}
 use Rattle.lattice.specs.Hull.{LowestMissing}
 use Rattle.convexity.specs.Frame.{frame_of}
@@ -138,7 +139,7 @@ module _ (o : Outline) where
 
   module _ (r : Reaches o) where
     -- An outline that meets none of 1 to 8 is taken exactly if every factor of every piece is a Christoffel word
-    pub taken-iff-christoffel : ((n : ℕ) × (a : Point) × (verdict_of o ≡ Taken n a)) ↔ ((k : ℕ) → k < 4 → Smooth o k)
+    pub taken-iff-christoffel : ((n : ℕ) × (a : Point) × (verdict_of o ≡ taken_with n a)) ↔ ((k : ℕ) → k < 4 → Smooth o k)
     taken-iff-christoffel = (
       λ v. none-smooth (taken-facts o v.0 v.1 v.2).undented,
       λ h. (edge_count t, t.start, verdict-taken o r (smooth-none h)),
@@ -156,7 +157,7 @@ module _ (o : Outline) where
     unfolding cell_found
     cell-lowest d = named-lowest o r d
 
-    nine-of-first-dent : (p i l : ℕ) (x : Point) → FirstDent o p i l x → verdict_of o ≡ Refused (Dent p i l x)
+    nine-of-first-dent : (p i l : ℕ) (x : Point) → FirstDent o p i l x → verdict_of o ≡ Err (Dent p i l x)
     unfolding dent_piece
     nine-of-first-dent p i l x h =
         let k : ℕ = h.k in
@@ -176,13 +177,13 @@ module _ (o : Outline) where
         let copy : dent_length (factors t k) ≡ l = size ∙ sym h.copy in
         let cell : cell_found (border o) ≡ x = lowest-unique (cell-lowest d) h.cell in
         verdict-dented o (record { reaches = r; dented = d })
-        ∙ ap Refused (dent-named k first ∙ λ j. Dent (piece j) (place j) (copy j) (cell j))
+        ∙ ap Err (dent-named k first ∙ λ j. Dent (piece j) (place j) (copy j) (cell j))
       where
         dent-some : (before : List Factor) → Falling (before ++ h.dent ∷ h.after) → 0 < length h.dent.word
         dent-some [] d = (falling-head d).lyndon.above_zero
         dent-some (g ∷ before) d = dent-some before (falling-tail d)
 
-    first-dent-of-nine : (p i l : ℕ) (x : Point) → verdict_of o ≡ Refused (Dent p i l x) → FirstDent o p i l x
+    first-dent-of-nine : (p i l : ℕ) (x : Point) → verdict_of o ≡ Err (Dent p i l x) → FirstDent o p i l x
     unfolding dent_piece
     first-dent-of-nine p i l x e = ⊎_elim dented undented (dented-or-not t)
       where
@@ -194,7 +195,7 @@ module _ (o : Outline) where
             let k : ℕ = dent_piece t in
             let f : Split (factors t k) =
             split (factors t k) (ltb-true 0 (dent_length (factors t k)) (first_found (dented_at t) 4 d)) in
-            let said = sym (ap Refused (dent-named k refl)) ∙ sym (verdict-dented o (record { reaches = r; dented = d })) ∙ e in
+            let said = sym (ap Err (dent-named k refl)) ∙ sym (verdict-dented o (record { reaches = r; dented = d })) ∙ e in
             let place : place_sent o (piece_cut o k + 1 + dent_at (factors t k)) ≡ i = cc in
             let copy : dent_length (factors t k) ≡ l = cc in
             let cell : cell_found (border o) ≡ x = cc in
@@ -221,12 +222,12 @@ module _ (o : Outline) where
 
     -- An outline that meets none of 1 to 8 is refused by 9 with these fields exactly if they
     -- are those of its first factor that is not a Christoffel word
-    pub nine-iff-first-dent : (p i l : ℕ) (x : Point) → (verdict_of o ≡ Refused (Dent p i l x)) ↔ FirstDent o p i l x
+    pub nine-iff-first-dent : (p i l : ℕ) (x : Point) → (verdict_of o ≡ Err (Dent p i l x)) ↔ FirstDent o p i l x
     nine-iff-first-dent p i l x = (first-dent-of-nine p i l x, nine-of-first-dent p i l x)
 
   -- ---- the fields and the edges of a taken outline
 
-  pub taken-count : (n : ℕ) (a : Point) → verdict_of o ≡ Taken n a → (fs : ℕ → List Factor) → FactorsOf o fs
+  pub taken-count : (n : ℕ) (a : Point) → verdict_of o ≡ taken_with n a → (fs : ℕ → List Factor) → FactorsOf o fs
       → n ≡ length (fs 0) + (length (fs 1) + (length (fs 2) + length (fs 3)))
   unfolding edge_count
   taken-count n a e fs h =
@@ -238,7 +239,7 @@ module _ (o : Outline) where
         factors-are 3 (fs 3) (h 3 (omega arith)),
       )
 
-  pub taken-anchor : (n : ℕ) (a : Point) → verdict_of o ≡ Taken n a → IsAnchor (block o) a
+  pub taken-anchor : (n : ℕ) (a : Point) → verdict_of o ≡ taken_with n a → IsAnchor (block o) a
   taken-anchor n a e =
       let f : TakenFacts o n a = taken-facts o n a e in
       subst (λ (b : Point). IsAnchor (block o) b) (sym f.anchor) (west-anchor o f.reaches)

@@ -1,5 +1,6 @@
 -- The first refusal that applies hides all later ones, so if the answer is none of 1 to
 -- 8, none of these applies, and the dents and the room decide.
+use Rattle.std.specs.Prelude.{Result, Ok, Err}
 use Prim.Native.Nat.{ℕ, ◌-◌, ◌*◌, ◌≤◌, ◌<◌}
 use native.Mathlib.Omega.{arith}
 use native.Mathlib.Decide.{dec_lt}
@@ -17,14 +18,14 @@ use Rattle.chart.specs.declared.Point.{Point}
 use Rattle.chart.specs.Limits.{most_numbers}
 use Rattle.chart.specs.declared.Refusal.{Refusal}
 use Rattle.chart.specs.declared.Refusal.TheVariants.{Length, Start, Letter, OffChart, NotClosed, Touches, EdgeList}
-use Rattle.chart.specs.declared.Verdict.{Verdict}
-use Rattle.chart.specs.declared.Verdict.TheVariants.{Taken, Refused}
+use Rattle.chart.specs.declared.Taken.{Taken}
+use Rattle.chart.specs.Taken.{taken_with}
+use Rattle.chart.proofs.TakenLaws.{verdict_number, same-edges, same-anchor}
 use Rattle.chart.specs.Outline.{Outline}
 use Rattle.chart.specs.Fields.{refusal_fields, verdict_fields}
 use Rattle.lattice.specs.Chart.{size}
 use Rattle.lattice.specs.Refusals.{Simple, bad_count, bad_start, letter_place, leaving_place, unclosed, touching_place}
-use Rattle.survey.specs.declared.Surveyed.{Surveyed}
-use Rattle.survey.specs.declared.Surveyed.TheVariants.{Refused as Stopped}
+use Rattle.survey_walk.specs.declared.Corners.{Corners}
 use Rattle.survey.specs.Survey.{survey_of}
 use Rattle.survey.proofs.SurveyLaws.{survey-passed}
 use Rattle.convexity.specs.Clockwise.{border, place_sent}
@@ -39,7 +40,7 @@ use Rattle.verdict.proofs.Chain.{verdict-chain}
 -- ---- refusals 1 to 8
 
 -- The number of the answer is none of 1 to 8
-unfoldable pub past_eight : Verdict → Bool
+unfoldable pub past_eight : Result Taken Refusal → Bool
 past_eight v = eqb (verdict_fields v).number 0 || ltb 8 (verdict_fields v).number
 
 -- A name to unfold the numbers
@@ -48,22 +49,24 @@ unfolding past_eight
 numbers = true
 
 -- The answer is one of the refusals up to n
-pub record Early (n : ℕ) (v : Verdict) : Type 0 where
+pub record Early (n : ℕ) (v : Result Taken Refusal) : Type 0 where
   pub refusal : Refusal
   pub above_zero : 0 < (refusal_fields refusal).number
   pub early : (refusal_fields refusal).number ≤ n
-  pub answer : v ≡ Refused refusal
+  pub answer : v ≡ Err refusal
 
 -- One link in the chain of tests: its refusal is the answer, or its test failed and the rest decides
-link : {R : Type 0} {n : ℕ} (b : Bool) (f : Refusal) (v : Verdict) → 0 < (refusal_fields f).number → (refusal_fields f).number ≤ n
-    → (b ≡ false → R ⊎ Early n v) → R ⊎ Early n (cond b (Refused f) v)
+link : {R : Type 0} {n : ℕ} (b : Bool) (f : Refusal) (v : Result Taken Refusal) → 0 < (refusal_fields f).number
+    → (refusal_fields f).number ≤ n
+    → (b ≡ false → R ⊎ Early n v) → R ⊎ Early n (cond b (Err f) v)
 link true f v s e rest = inr (record { refusal = f; above_zero = s; early = e; answer = refl })
 link false f v s e rest = rest refl
 
 -- The same link in the survey
-survey-link : {R : Type 0} {n : ℕ} (b : Bool) (f : Refusal) (c : Surveyed) (v : Verdict) → 0 < (refusal_fields f).number
+survey-link : {R : Type 0} {n : ℕ} (b : Bool) (f : Refusal) (c : Result Corners Refusal) (v : Result Taken Refusal)
+    → 0 < (refusal_fields f).number
     → (refusal_fields f).number ≤ n
-    → (b ≡ false → R ⊎ Early n (after_survey c v)) → R ⊎ Early n (after_survey (cond b (Stopped f) c) v)
+    → (b ≡ false → R ⊎ Early n (after_survey c v)) → R ⊎ Early n (after_survey (cond b (Err f) c) v)
 unfolding after_survey
 survey-link true f c v s e rest = inr (record { refusal = f; above_zero = s; early = e; answer = refl })
 survey-link false f c v s e rest = rest refl
@@ -125,15 +128,15 @@ module _ (o : Outline) where
           ∙ rw (ne_eqb n 0 (omega (arith, e.above_zero)), le-ltb 8 n e.early))
 
   -- After 1 to 8 the dents decide
-  verdict-past-eight : Reaches o → verdict_of o ≡ cond (ltb dent 4) (Refused (dent_of o)) (Taken count (border o).start)
+  verdict-past-eight : Reaches o → verdict_of o ≡ cond (ltb dent 4) (Err (dent_of o)) (taken_with count (border o).start)
   unfolding border_verdict round_verdict dent_of after_survey
   verdict-past-eight r = rw (verdict-chain o, ← survey-passed o r.simple, r.straight)
 
-  pub verdict-dented : Dented o → verdict_of o ≡ Refused (dent_of o)
+  pub verdict-dented : Dented o → verdict_of o ≡ Err (dent_of o)
   verdict-dented d = verdict-past-eight d.reaches ∙ rw (lt-ltb dent 4 d.dented)
 
   pub verdict-taken : Reaches o → dent_piece (border o) ≡ 4
-      → verdict_of o ≡ Taken (edge_count (border o)) (border o).start
+      → verdict_of o ≡ taken_with (edge_count (border o)) (border o).start
   verdict-taken r u = verdict-past-eight r ∙ rw u
 
   -- What "taken" tells about an outline
@@ -143,7 +146,7 @@ module _ (o : Outline) where
     pub count : n ≡ edge_count (border o)
     pub anchor : a ≡ (border o).start
 
-  pub taken-facts : (n : ℕ) (a : Point) → verdict_of o ≡ Taken n a → TakenFacts n a
+  pub taken-facts : (n : ℕ) (a : Point) → verdict_of o ≡ taken_with n a → TakenFacts n a
   taken-facts n a e = ⊎_elim dented undented (dented-or-not (border o))
     where
       reach : Reaches o
@@ -151,17 +154,18 @@ module _ (o : Outline) where
 
       dented : dent_piece (border o) < 4 → TakenFacts n a
       dented h =
-          let x : verdict_of o ≡ Refused (dent_of o) = verdict-dented (record { reaches = reach; dented = h }) in
+          let x : verdict_of o ≡ Err (dent_of o) = verdict-dented (record { reaches = reach; dented = h }) in
           let z : ◌≡◌ {A = ℕ} 0 1 = cc in
           absurd (omega arith)
 
       undented : dent_piece (border o) ≡ 4 → TakenFacts n a
       undented u =
-          let same : verdict_of o ≡ Taken (edge_count (border o)) (border o).start = verdict-taken reach u in
-          record { reaches = reach; undented = u; count = cc; anchor = cc }
+          let same : verdict_of o ≡ taken_with (edge_count (border o)) (border o).start = verdict-taken reach u in
+          let s = sym e ∙ same in
+          record { reaches = reach; undented = u; count = same-edges s; anchor = same-anchor s }
 
   -- The holder has room for the edges of every taken outline
-  pub taken-fits : (n : ℕ) (a : Point) → verdict_of o ≡ Taken n a → 2 * n ≤ most_numbers
+  pub taken-fits : (n : ℕ) (a : Point) → verdict_of o ≡ taken_with n a → 2 * n ≤ most_numbers
   taken-fits n a e =
       let f : TakenFacts n a = taken-facts n a e in
       let fit = edges_fit o f.reaches f.undented in
@@ -177,7 +181,7 @@ module _ (o : Outline) where
 
       undented : dent_piece (border o) ≡ 4 → Dented o
       undented u =
-          let e = ap (λ (x : Verdict). (verdict_fields x).number) (verdict-taken reach u) in absurd (omega (arith, e, nine))
+          let e = ap verdict_number (verdict-taken reach u) in absurd (omega (arith, e, nine))
 
   pub nine-of-dented : Dented o → (verdict_fields (verdict_of o)).number ≡ 9
   unfolding numbers dent_of dent_in
@@ -191,62 +195,62 @@ module _ (o : Outline) where
   verdict-number = ⊎_elim reached early reaches-or-early
     where
       early : Early 8 (verdict_of o) → (verdict_fields (verdict_of o)).number ≤ 9
-      early e = omega (arith, e.early, ap (λ (v : Verdict). (verdict_fields v).number) e.answer)
+      early e = omega (arith, e.early, ap verdict_number e.answer)
 
       reached : Reaches o → (verdict_fields (verdict_of o)).number ≤ 9
       reached r =
           ⊎_elim (λ h. omega (arith, nine-of-dented (record { reaches = r; dented = h })))
-          (λ u. omega (arith, ap (λ (v : Verdict). (verdict_fields v).number) (verdict-taken r u))) (dented-or-not (border o))
+          (λ u. omega (arith, ap verdict_number (verdict-taken r u))) (dented-or-not (border o))
 
-  pub refused-number : {f : Refusal} → verdict_of o ≡ Refused f → (refusal_fields f).number ≤ 9
-  refused-number e = omega (arith, verdict-number, ap (λ (v : Verdict). (verdict_fields v).number) e)
+  pub refused-number : {f : Refusal} → verdict_of o ≡ Err f → (refusal_fields f).number ≤ 9
+  refused-number e = omega (arith, verdict-number, ap verdict_number e)
 
   -- ---- the room
 
-  pub test-refused : (m : ℕ) (f : Refusal) → verdict_of o ≡ Refused f → test_of o m ≡ Refused f
+  pub test-refused : (m : ℕ) (f : Refusal) → verdict_of o ≡ Err f → test_of o m ≡ Err f
   unfolding test_of with_room
   test-refused m f e = rw e
 
-  pub test_short : (m n : ℕ) (a : Point) → verdict_of o ≡ Taken n a → m < 2 * n → test_of o m ≡ Refused (EdgeList n)
+  pub test_short : (m n : ℕ) (a : Point) → verdict_of o ≡ taken_with n a → m < 2 * n → test_of o m ≡ Err (EdgeList n)
   unfolding test_of with_room
   test_short m n a e h = rw (e, lt-ltb m (2 * n) h)
 
-  pub test-taken : (m n : ℕ) (a : Point) → verdict_of o ≡ Taken n a → 2 * n ≤ m → test_of o m ≡ Taken n a
+  pub test-taken : (m n : ℕ) (a : Point) → verdict_of o ≡ taken_with n a → 2 * n ≤ m → test_of o m ≡ taken_with n a
   unfolding test_of with_room
   test-taken m n a e h = rw (e, le-ltb m (2 * n) h)
 
   -- If a test takes an outline or names a dent, so does the verdict; a taken outline has room
   pub record Roomy (m n : ℕ) (a : Point) : Type 0 where
-    pub verdict : verdict_of o ≡ Taken n a
+    pub verdict : verdict_of o ≡ taken_with n a
     pub room : 2 * n ≤ m
 
-  pub roomy : (m n : ℕ) (a : Point) → test_of o m ≡ Taken n a → Roomy m n a
+  pub roomy : (m n : ℕ) (a : Point) → test_of o m ≡ taken_with n a → Roomy m n a
   roomy m n a e = go (verdict_of o) refl
     where
-      go : (v : Verdict) → verdict_of o ≡ v → Roomy m n a
-      go (Refused f) x = let y = test-refused m f x in let z : ◌≡◌ {A = ℕ} 0 1 = cc in absurd (omega arith)
-      go (Taken k b) x =
-          elim (dec_lt m (2 * k)) [
-            | yes h ↦ let y = test_short m k b x h in let z : ◌≡◌ {A = ℕ} 0 1 = cc in absurd (omega arith)
+      go : (v : Result Taken Refusal) → verdict_of o ≡ v → Roomy m n a
+      go (Err f) x = let y = test-refused m f x in let z : ◌≡◌ {A = ℕ} 0 1 = cc in absurd (omega arith)
+      go (Ok t) x =
+          elim (dec_lt m (2 * t.edges)) [
+            | yes h ↦ let y = test_short m t.edges t.anchor x h in let z : ◌≡◌ {A = ℕ} 0 1 = cc in absurd (omega arith)
             | no h ↦
-                let y : test_of o m ≡ Taken k b = test-taken m k b x (omega arith) in
-                let p : k ≡ n = cc in
-                let q : b ≡ a = cc in
+                let y : test_of o m ≡ taken_with t.edges t.anchor = test-taken m t.edges t.anchor x (omega arith) in
+                let p : t.edges ≡ n = cc in
+                let q : t.anchor ≡ a = cc in
                 record { verdict = cc; room = omega arith }
           ]
 
   -- ---- the buffer afterwards
 
-  pub edges-after : (buffer : List ℤ) (n : ℕ) (a : Point) → test_of o (length buffer) ≡ Taken n a →
+  pub edges-after : (buffer : List ℤ) (n : ℕ) (a : Point) → test_of o (length buffer) ≡ taken_with n a →
       edges_after o buffer ≡ edges (border o) ++ drop (length (edges (border o))) buffer
   unfolding edges_after buffer_after
   edges-after buffer n a e = rw e
 
-  pub edges-refused : (buffer : List ℤ) (f : Refusal) → test_of o (length buffer) ≡ Refused f → edges_after o buffer ≡ buffer
+  pub edges-refused : (buffer : List ℤ) (f : Refusal) → test_of o (length buffer) ≡ Err f → edges_after o buffer ≡ buffer
   unfolding edges_after buffer_after
   edges-refused buffer f e = rw e
 
-  pub edges-first : (buffer : List ℤ) (n : ℕ) (a : Point) → test_of o (length buffer) ≡ Taken n a
+  pub edges-first : (buffer : List ℤ) (n : ℕ) (a : Point) → test_of o (length buffer) ≡ taken_with n a
       → take (2 * n) (edges_after o buffer) ≡ edges (border o)
   edges-first buffer n a e =
       let k : TakenFacts n a = taken-facts n a (roomy (length buffer) n a e).verdict in

@@ -3,13 +3,13 @@
 -- is neither of its piece's two (contract 3.4 and 3.5). Factors here are any strictly
 -- decreasing Lyndon words that spell the piece's word. Christoffel words are defined by remainders. No computed list and no test stands
 -- in between. Pieces are counted from 0.
-use Rattle.std.specs.Prelude.{ℕ, ◌+◌, ◌%◌, ◌<◌, ◌≡◌, ◌↔◌, ◌⊎◌, List, [], ◌∷◌, ◌++◌, length, get_or}
+use Rattle.std.specs.Prelude.{ℕ, ◌+◌, ◌%◌, ◌<◌, ◌≡◌, ◌↔◌, ◌⊎◌, List, [], ◌∷◌, ◌++◌, length, get_or, Err}
 use Rattle.words.specs.Word.{Word}
 use Rattle.words.specs.Lyndon.{Factor, Factoring, written}
 use Rattle.words.specs.Christoffel.{Christoffel}
 use Rattle.chart.specs.declared.Point.{Point}
 use Rattle.chart.specs.declared.Refusal.TheVariants.{Dent}
-use Rattle.chart.specs.declared.Verdict.TheVariants.{Taken, Refused}
+use Rattle.chart.specs.Taken.{taken_with}
 use Rattle.chart.specs.Outline.{Outline}
 use Rattle.lattice.specs.Chart.{size}
 use Rattle.lattice.specs.Hull.{LowestMissing}
@@ -94,12 +94,12 @@ pub record ByTheRule (o : Outline) : Type 0 where
   pub factored : (k : ℕ) → (fs : List Factor) × Factoring (piece_word o k) fs
   pub one_way : (k : ℕ) (fs gs : List Factor) → Factoring (piece_word o k) fs → Factoring (piece_word o k) gs → fs ≡ gs
   -- it is taken, or refused by 9 with these fields
-  pub taken : ((n : ℕ) × (a : Point) × (verdict_of o ≡ Taken n a)) ↔ ((k : ℕ) → k < 4 → Smooth o k)
-  pub nine : (p i l : ℕ) (x : Point) → (verdict_of o ≡ Refused (Dent p i l x)) ↔ FirstDent o p i l x
+  pub taken : ((n : ℕ) × (a : Point) × (verdict_of o ≡ taken_with n a)) ↔ ((k : ℕ) → k < 4 → Smooth o k)
+  pub nine : (p i l : ℕ) (x : Point) → (verdict_of o ≡ Err (Dent p i l x)) ↔ FirstDent o p i l x
   -- the fields of a taken outline, and its edges, one for each factor (contract 3.12, 3.13 and 6.1)
-  pub edges_counted : (n : ℕ) (a : Point) → verdict_of o ≡ Taken n a → (fs : ℕ → List Factor) → FactorsOf o fs →
+  pub edges_counted : (n : ℕ) (a : Point) → verdict_of o ≡ taken_with n a → (fs : ℕ → List Factor) → FactorsOf o fs →
       n ≡ length (fs 0) + (length (fs 1) + (length (fs 2) + length (fs 3)))
-  pub anchor : (n : ℕ) (a : Point) → verdict_of o ≡ Taken n a → IsAnchor (block o) a
+  pub anchor : (n : ℕ) (a : Point) → verdict_of o ≡ taken_with n a → IsAnchor (block o) a
   pub edges : (fs : ℕ → List Factor) → FactorsOf o fs →
       edges (border o) ≡
       edges_of (frame_of 0) (fs 0) ++ (edges_of (frame_of 1) (fs 1) ++ (edges_of (frame_of 2) (fs 2) ++ edges_of (frame_of 3) (fs 3)))

@@ -1,12 +1,12 @@
 -- The verdict on an outline: the first of refusals 1 to 9 that applies, or taken
 -- (contract 5). A test checks for room as well (contract 6.1).
-use Rattle.std.specs.Prelude.{ℕ, suc, ◌+◌, ◌-◌, ◌*◌, Bool, cond, List, [], ◌∷◌, ◌++◌, length, drop, ltb, ℤ}
+use Rattle.std.specs.Prelude.{ℕ, suc, ◌+◌, ◌-◌, ◌*◌, Bool, cond, List, [], ◌∷◌, ◌++◌, length, drop, ltb, ℤ, Result, Ok, Err}
 use Rattle.chart.specs.declared.Point.{Point}
 use Rattle.chart.specs.declared.Fields.{Fields}
 use Rattle.chart.specs.declared.Refusal.{Refusal}
 use Rattle.chart.specs.declared.Refusal.TheVariants.{Length, Start, Letter, OffChart, NotClosed, Touches, BackStep, Dent, EdgeList}
-use Rattle.chart.specs.declared.Verdict.{Verdict}
-use Rattle.chart.specs.declared.Verdict.TheVariants.{Taken, Refused}
+use Rattle.chart.specs.declared.Taken.{Taken}
+use Rattle.chart.specs.Taken.{taken_with}
 use Rattle.chart.specs.Outline.{Outline}
 use Rattle.chart.specs.Fields.{verdict_fields}
 use Rattle.lattice.specs.Chart.{corner_at, size}
@@ -29,9 +29,9 @@ unfoldable pub dent_in : (ℕ → ℕ) → Outline → ℕ → Refusal
 dent_in place t k = Dent (suc k) (place (cut t k + 1 + dent_at (factors t k))) (dent_length (factors t k)) (cell_found t)
 
 -- The first refusal of a list that applies, or the given verdict. Each stands with the test whether it applies
-unfoldable pub first_of : List (Bool × Refusal) → Verdict → Verdict
+unfoldable pub first_of : List (Bool × Refusal) → Result Taken Refusal → Result Taken Refusal
 first_of [] v = v
-first_of ((b, f) ∷ cs) v = cond b (Refused f) (first_of cs v)
+first_of ((b, f) ∷ cs) v = cond b (Err f) (first_of cs v)
 
 -- 1 to 9 of an outline, in this order. 8 and 9 go by its border, with places in the list as sent
 unfoldable pub checks : Outline → List (Bool × Refusal)
@@ -46,18 +46,17 @@ checks o =
     (ltb (dent_piece (border o)) 4, dent_in (place_sent o) (border o) (dent_piece (border o))) ∷ []
 
 -- The first of 1 to 9 that applies, otherwise taken, with the count of edges and the anchor, which is the cell at W: what a close checks,
--- in
--- the holder and in the plain book
-unfoldable pub verdict_of : Outline → Verdict
-verdict_of o = first_of (checks o) (Taken (edge_count (border o)) (border o).start)
+-- in the holder and in the plain book
+unfoldable pub verdict_of : Outline → Result Taken Refusal
+verdict_of o = first_of (checks o) (taken_with (edge_count (border o)) (border o).start)
 
 -- 10: a taken outline needs two numbers for each edge in a buffer of m
-unfoldable pub with_room : ℕ → Verdict → Verdict
-with_room m (Refused f) = Refused f
-with_room m (Taken n a) = cond (ltb m (2 * n)) (Refused (EdgeList n)) (Taken n a)
+unfoldable pub with_room : ℕ → Result Taken Refusal → Result Taken Refusal
+with_room m (Err f) = Err f
+with_room m (Ok t) = cond (ltb m (2 * t.edges)) (Err (EdgeList t.edges)) (Ok t)
 
 -- 1 to 10, or taken: what a test checks
-unfoldable pub test_of : Outline → ℕ → Verdict
+unfoldable pub test_of : Outline → ℕ → Result Taken Refusal
 test_of o m = with_room m (verdict_of o)
 
 -- The reply of a test in seven fields
@@ -65,9 +64,9 @@ unfoldable pub test_fields : Outline → ℕ → Fields
 test_fields o m = verdict_fields (test_of o m)
 
 -- The buffer afterwards: the edges first and the rest unchanged; all of it unchanged if the outline is refused
-unfoldable pub buffer_after : Verdict → List ℤ → List ℤ → List ℤ
-buffer_after (Taken n a) es buffer = es ++ drop (length es) buffer
-buffer_after (Refused f) es buffer = buffer
+unfoldable pub buffer_after : Result Taken Refusal → List ℤ → List ℤ → List ℤ
+buffer_after (Ok t) es buffer = es ++ drop (length es) buffer
+buffer_after (Err f) es buffer = buffer
 
 unfoldable pub edges_after : Outline → List ℤ → List ℤ
 edges_after o buffer = buffer_after (test_of o (length buffer)) (edges (border o)) buffer

@@ -13,13 +13,13 @@ use Rattle.calls.specs.declared.Question.TheVariants.{Reading as OfReading}
 use Rattle.calls.specs.declared.Reading.{Reading}
 use Rattle.readings.specs.Located.{Held, reading_of}
 use Rattle.readings.proofs.Agreement.{patterns-held}
-use Rattle.wire.specs.declared.Decoded.{Decoded}
-use Rattle.wire.specs.declared.Decoded.TheVariants.{Call as OfCall, Nothing}
+use Rattle.wire.specs.Wire.{Decoded}
+use Rattle.std.specs.Prelude.{Some, None}
 use Rattle.wire.specs.Wire.{call_width, call_of, decoded}
 
 -- A number other than 0 to 8 is not a call
 pub call_of-none : (n p k x y : ℕ) → (n ≡ 0 → ⊥) → (n ≡ 1 → ⊥) → (n ≡ 2 → ⊥) → (n ≡ 3 → ⊥) → (n ≡ 4 → ⊥) → (n ≡ 5 → ⊥) → (n ≡ 6 → ⊥)
-    → (n ≡ 7 → ⊥) → (n ≡ 8 → ⊥) → Nothing ≡ call_of n p k x y
+    → (n ≡ 7 → ⊥) → (n ≡ 8 → ⊥) → None ≡ call_of n p k x y
 unfolding call_of
 call_of-none zero p k x y h0 h1 h2 h3 h4 h5 h6 h7 h8 = absurd (h0 refl)
 call_of-none (suc zero) p k x y h0 h1 h2 h3 h4 h5 h6 h7 h8 = absurd (h1 refl)
@@ -40,8 +40,8 @@ differ z = absurd (omega (arith, z))
 
 -- The action of a call. Bytes that are not a call have that of a drop
 action_in : Decoded → Action
-action_in (OfCall c) = c.action
-action_in Nothing = Drop
+action_in (Some c) = c.action
+action_in None = Drop
 
 module _ (p k : ℕ) (r : Reading) where
   call-held : (n q j x y : ℕ) → action_in (call_of n q j x y) ≡ Ask k (OfReading r) → Held r
@@ -60,11 +60,11 @@ module _ (p k : ℕ) (r : Reading) where
   call-held (suc (suc (suc (suc (suc (suc (suc (suc (suc n))))))))) q j x y e = differ cc
 
   -- Every reading that bytes have consists of 32-bit floats
-  pub decoded-held : (s : List ℕ) → decoded s ≡ OfCall (by p (Ask k (OfReading r))) → Held r
+  pub decoded-held : (s : List ℕ) → decoded s ≡ Some (by p (Ask k (OfReading r))) → Held r
   unfolding decoded action_in
   decoded-held s = go (eqb (length s) call_width) _ (λ e. call-held _ _ _ _ _ (ap action_in e))
     where
-      go : (t : Bool) (d : Decoded) → (d ≡ OfCall (by p (Ask k (OfReading r))) → Held r)
-          → cond t d Nothing ≡ OfCall (by p (Ask k (OfReading r))) → Held r
+      go : (t : Bool) (d : Decoded) → (d ≡ Some (by p (Ask k (OfReading r))) → Held r)
+          → cond t d None ≡ Some (by p (Ask k (OfReading r))) → Held r
       go true d h e = h e
       go false d h e = let z : Drop ≡ Ask k (OfReading r) = ap action_in e in differ cc

@@ -12,22 +12,14 @@ use readings::from_bits;
 // How many bytes a call has.
 pub const BYTES: usize = 11;
 
-// A decoded call.
-#[derive(Clone, Copy)]
-pub enum Decoded {
-    Call(Call),
-    // Not a call: the number is above 8, or there are not eleven bytes.
-    Nothing,
-}
-
 // A 32-bit number, low byte first.
 pub fn long(a: u8, b: u8, c: u8, d: u8) -> u32
     ensures { result ≡ long_of a b c d }
 {
-    a as u32 + 256 * (b as u32) + 65536 * (c as u32) + 16777216 * (d as u32)
+    u32::from_le_bytes([a, b, c, d])
 }
 
-// Its first two bytes.
+// Its first two bytes. An `as` may lose nothing, so each of these two takes a remainder: one function for both would need its divisor too.
 pub fn short(x: u32) -> u16
     ensures { result ≡ short_of x }
 {
@@ -50,20 +42,20 @@ pub fn point(x: u32, y: u32) -> Point
     }
 }
 
-fn call_by(party: u8, action: Action) -> Decoded
-    ensures { result ≡ Decoded.Call (record { party = party; action = action }) }
+fn call_by(party: u8, action: Action) -> Option<Call>
+    ensures { result ≡ Some (record { party = party; action = action }) }
 {
-    Decoded::Call(Call { party, action })
+    Some(Call { party, action })
 }
 
-fn ask(party: u8, place: u8, question: Question) -> Decoded
-    ensures { result ≡ Decoded.Call (record { party = party; action = Action.Ask place question }) }
+fn ask(party: u8, place: u8, question: Question) -> Option<Call>
+    ensures { result ≡ Some (record { party = party; action = Action.Ask place question }) }
 {
     call_by(party, Action::Ask { place, question })
 }
 
-// A call's number, its party and place, and its argument.
-fn call_of(number: u8, party: u8, place: u8, x: u32, y: u32) -> Decoded
+// The call with a number, a party, a place and two arguments. None if the number is above 8. The number is a byte of the C interface.
+fn call_of(number: u8, party: u8, place: u8, x: u32, y: u32) -> Option<Call>
     ensures { result ≡ call_of number party place x y }
 {
     match number {
@@ -76,27 +68,28 @@ fn call_of(number: u8, party: u8, place: u8, x: u32, y: u32) -> Decoded
         6 => ask(party, place, Question::Row(short(x))),
         7 => ask(party, place, Question::Reading(from_bits(x, y))),
         8 => ask(party, place, Question::Piece(short(x))),
-        _ => Decoded::Nothing,
+        _ => None,
     }
 }
 
-fn decode(call: &[u8]) -> Decoded
+// The call of these bytes. None unless there are eleven.
+fn decode(call: &[u8]) -> Option<Call>
     ensures { result ≡ decoded_of call.now }
 {
     if call.len() != BYTES {
-        return Decoded::Nothing;
+        return None;
     }
     let x = long(call[3], call[4], call[5], call[6]);
     let y = long(call[7], call[8], call[9], call[10]);
     call_of(call[0], call[1], call[2], x, y)
 }
 
-// The call to answer. Nothing if there is no room for the reply.
-pub fn received(call: &[u8], room: usize) -> Decoded
+// The call to answer. None if there is no room for the reply: `room` counts numbers of a buffer that is not lent here.
+pub fn received(call: &[u8], room: usize) -> Option<Call>
     ensures { result ≡ received_of call.now room }
 {
     if room < NUMBERS {
-        return Decoded::Nothing;
+        return None;
     }
     decode(call)
 }

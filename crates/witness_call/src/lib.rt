@@ -9,8 +9,6 @@ ghost use Rattle.witness.specs.Witnessed.{six_numbers, shown_in, witnessed_of, w
 ghost use Rattle.witness.specs.Named.{WitnessNamed};
 
 use chart::{Point, Refusal};
-use survey::Surveyed;
-use witness::Witnessed;
 
 // Three cells have six numbers.
 const SIX: usize = 6;
@@ -20,16 +18,11 @@ fn put(a: Point, b: Point, d: Point, cells: &mut [u16])
     requires { six_numbers ≤ length cells.old }
     ensures { cells.new ≡ three_numbers (record { a = a; b = b; d = d }) ++ drop six_numbers cells.old }
 {
-    cells[0] = a.col;
-    cells[1] = a.row;
-    cells[2] = b.col;
-    cells[3] = b.row;
-    cells[4] = d.col;
-    cells[5] = d.row;
+    cells[..SIX].copy_from_slice(&[a.col, a.row, b.col, b.row, d.col, d.row]);
 }
 
 // For an outline that passes 1 to 6: 10, the lowest missing cell, or none.
-fn show(start: Point, letters: &[u8], cells: &mut [u16]) -> Witnessed
+fn show(start: Point, letters: &[u8], cells: &mut [u16]) -> Result<Option<Point>, Refusal>
     requires { Simple (outline start letters.now) }
     ensures answer { result ≡ shown_in (length cells.old) (outline start letters.now) }
     ensures cells { cells.new
@@ -37,31 +30,23 @@ fn show(start: Point, letters: &[u8], cells: &mut [u16]) -> Witnessed
         (witness_of (outline start letters.now)) cells.old }
 {
     if cells.len() < SIX {
-        return Witnessed::Refused(Refusal::EdgeList { edges: 0 });
+        return Err(Refusal::EdgeList { edges: 0 });
     }
-    let shown = witness_search::find(start, letters);
-    if shown.found {
-        let cell = shown.cell;
-        let a = shown.a;
-        let b = shown.b;
-        let d = shown.d;
-        put(a, b, d, cells);
-        return Witnessed::Found { cell };
-    }
-    Witnessed::None
+    let Some(shown) = witness_search::find(start, letters) else {
+        return Ok(None);
+    };
+    put(shown.a, shown.b, shown.d, cells);
+    Ok(Some(shown.cell))
 }
 
 // Finds the lowest missing cell of an outline and writes three enclosed cells whose triangle has it to the front of the buffer.
 // If no cell is missing, or the call is refused, the buffer is unchanged.
-pub fn witness(start: Point, letters: &[u8], cells: &mut [u16]) -> Witnessed
+pub fn witness(start: Point, letters: &[u8], cells: &mut [u16]) -> Result<Option<Point>, Refusal>
     ensures answer { result ≡ witnessed_of (outline start letters.now) (length cells.old) }
     ensures cells { cells.new ≡ cells_after (outline start letters.now) cells.old }
     ensures named { WitnessNamed (outline start letters.now) (witnessed_fields result) cells.old
         cells.new }
 {
-    let surveyed = survey::survey(start, letters);
-    match surveyed {
-        Surveyed::Refused(why) => Witnessed::Refused(why),
-        Surveyed::Passed(_found) => show(start, letters, cells),
-    }
+    survey::survey(start, letters)?;
+    show(start, letters, cells)
 }

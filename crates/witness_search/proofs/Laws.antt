@@ -1,13 +1,11 @@
 -- The pass over the rows: the current edges go across the current row, and no earlier row has a gap.
 use Prim.Native.Nat.{ℕ, suc, pred, ◌+◌, ◌-◌, ◌≤◌, ◌<◌}
 use mathlib.Core.Path.{◌≡◌, refl, sym, ap, ◌∙◌, subst}
-use mathlib.Core.Bool.{Bool, true, false, true≢false, cond}
+use mathlib.Core.Bool.{Bool, true, false, cond}
 use mathlib.Core.Logic.{inl, inr}
-use native.Mathlib.Decide.{dec_lt}
 use native.Mathlib.Omega.{arith}
 use lib.Dec.{leb, ltb}
 use borrow.Author.Tests.{le-leb, lt-ltb, le-ltb}
-use Rattle.base.specs.Below.{first}
 use Rattle.base.proofs.BelowLaws.{below_suc, first-is, first-none}
 use Rattle.chart.specs.Limits.{side}
 use Rattle.chart.specs.declared.Point.{Point}
@@ -20,19 +18,8 @@ use Rattle.completion.specs.HullRows.{next_row, hull_left, hull_right}
 use Rattle.witness.specs.Three.{Three, lower_end, upper_end, first_in, last_in, from_left, from_right, from_row, three_for}
 use Rattle.witness.specs.Gap.{open_column, has_gap, lowest_row, lowest_open}
 use Rattle.witness.proofs.Steps.{row-spans, row_first, row_next, lower-same, upper-same, left-same}
-use Rattle.witness_search.specs.parts.Answers.{three_by, Shows, Answers}
-
--- ---- a column left of the hull's right end
-
-pub gap-sums : (c x w : ℕ) → w ≡ c → w < 255 → ltb x (255 - w) ≡ ltb c (side - x)
-gap-sums c x w e l =
-    elim (dec_lt x (255 - w)) [
-      | yes h ↦ lt-ltb x (255 - w) h ∙ sym (lt-ltb c (side - x) (omega arith))
-      | no h ↦ le-ltb x (255 - w) (omega arith) ∙ sym (le-ltb c (side - x) (omega arith))
-    ]
-
-pub gap-past : (c x : ℕ) → 255 ≤ c → false ≡ ltb c (side - x)
-gap-past c x l = sym (le-ltb c (side - x) (omega arith))
+use Rattle.witness_search.specs.declared.Shown.{Shown}
+use Rattle.witness_search.specs.parts.Answers.{three_by, Shows, Lowest}
 
 -- ---- the three cells
 
@@ -46,21 +33,19 @@ cells : {a b d p q u : Point} → a ≡ p → b ≡ q → d ≡ u → ◌≡◌ 
 cells e f g z = record { a = sym e z; b = sym f z; d = sym g z }
 
 module _ {lo hi : ℕ → ℕ} {i j k n c r : ℕ} {x a b d : Point} where
-  pub shows_left : c < lo r → At x c r → At a (lo i) i → At b (lo j) j → At d (lo r) r → Shows lo hi i j k n c r true x a b d
+  pub shows_left : c < lo r → At x c r → At a (lo i) i → At b (lo j) j → At d (lo r) r → Shows lo hi i j k n c r x a b d
   unfolding three_by first_in last_in
   shows_left l e f g h =
       record {
-        is_found = refl;
         is_cell = is_at x c r e;
         three = rw (lt-ltb c (lo r) l) (cells (is_at a (lo i) i f) (is_at b (lo j) j g) (is_at d (lo r) r h));
       }
 
   pub shows-row : lo r ≤ c → c < hi r → {p : ℕ} → p ≡ pred (hi r) → At x c r → At a (lo r) r → At b p r → At d p r
-      → Shows lo hi i j k n c r true x a b d
+      → Shows lo hi i j k n c r x a b d
   unfolding three_by first_in last_in
   shows-row l m q e f g h =
       record {
-        is_found = refl;
         is_cell = is_at x c r e;
         three =
             rw (le-ltb c (lo r) l, lt-ltb c (hi r) m)
@@ -68,11 +53,10 @@ module _ {lo hi : ℕ → ℕ} {i j k n c r : ℕ} {x a b d : Point} where
       }
 
   pub shows-right : lo r ≤ c → hi r ≤ c → {p q u : ℕ} → p ≡ pred (hi k) → q ≡ pred (hi n) → u ≡ pred (hi r) → At x c r → At a p k → At b q n
-      → At d u r → Shows lo hi i j k n c r true x a b d
+      → At d u r → Shows lo hi i j k n c r x a b d
   unfolding three_by first_in last_in
   shows-right l m s t v e f g h =
       record {
-        is_found = refl;
         is_cell = is_at x c r e;
         three =
             rw (le-ltb c (lo r) l, le-ltb c (hi r) m)
@@ -212,27 +196,51 @@ module _ (lo en hi m : ℕ → ℕ) (b t : ℕ) (two : suc b < t) (mirrors : (s 
         let q = a.right.is-high ∙ upper-same m mirrored b t mirrors two r a.low a.high in
         λ z. three_by lo hi (a.left.is-low z) (a.left.is-high z) (p z) (q z) c r
 
-    pub answers-found : (found : Bool) (cell p q v : Point) → ((s : ℕ) → b ≤ s → s < r → has_gap lo en hi b t s ≡ false)
-        → ltb c (side - x) ≡ true → Shows lo hi i j k n c r found cell p q v → Answers lo en hi b t found cell p q v
+    pub answers-found : (s : Shown) → ((q : ℕ) → b ≤ q → q < r → has_gap lo en hi b t q ≡ false) → ltb c (side - x) ≡ true
+        → Shows lo hi i j k n c r s.cell s.a s.b s.d → Lowest lo en hi b t s
     unfolding lowest_open
-    answers-found found cell p q v clear g s =
+    answers-found s clear g h =
         let e = lowest-row clear g in
         record {
-          none_found = λ z. absurd (true≢false (sym s.is_found ∙ z));
-          row_found = λ z. omega (arith, a.high);
-          lowest = λ z. s.is_cell
+          row = omega (arith, a.high);
+          lowest =
+              h.is_cell
               ∙ point-eq (at c r) (at (open_column lo en hi b t (lowest_row lo en hi b t)) (lowest_row lo en hi b t)) (opened
               ∙ ap (open_column lo en hi b t) (sym e)) (sym e);
-          three = λ z. ap (three_for lo hi b t) s.is_cell ∙ sym same-three ∙ s.three;
+          three = ap (three_for lo hi b t) h.is_cell ∙ sym same-three ∙ h.three;
         }
 
-  pub answers-none : (i k r : ℕ) → t ≤ r → Searching i k r → (cell p q v : Point) → Answers lo en hi b t false cell p q v
+  -- What the passes over the rows and the two edges give
+  module _ {i k r : ℕ} (s : Searching i k r) (l : r < t) {next-left next-right : ℕ → ℕ} (left : Tangents lo next-left b t)
+      (right : Tangents m next-right b t) {p q : ℕ} (e : p ≡ cond (leb r (next-left i)) i (next-left i))
+      (f : q ≡ cond (leb r (next-right k)) k (next-right k)) where
+    pub left-within : (b ≤ p) × (suc p < t)
+    left-within = edge-within lo b t two left s.left s.low l e
+
+    pub right-within : (b ≤ q) × (suc q < t)
+    right-within = edge-within m b t two right s.right s.low l f
+
+    module _ {j n : ℕ} (g : j ≡ next-left p) (h : n ≡ next-right q) where
+      pub left-edge : Edge lo b t two r p j
+      left-edge = edge_of lo b t two left s.left s.low l e j g
+
+      pub right-edge : Edge m b t two r q n
+      right-edge = edge_of m b t two right s.right s.low l f n h
+
+      pub across-row : {u x c : ℕ} → u ≡ crossing lo p j r → x ≡ crossing m q n r → c ≡ cond (ltb u (lo r)) u (en r)
+          → Across r p j q n u x c
+      across-row y z w =
+          record {
+            low = s.low;
+            high = l;
+            left = left-edge;
+            right = right-edge;
+            crosses-left = y;
+            crosses-right = z;
+            is-column = w;
+          }
+
+  pub answers-none : (i k r : ℕ) → t ≤ r → Searching i k r → t ≤ lowest_row lo en hi b t
   unfolding lowest_row
-  answers-none i k r l s cell p q v =
-      let e = first-none (λ z. has_gap lo en hi b t (b + z)) (t - b) (λ z a. s.clear (b + z) (omega arith) (omega arith)) in
-      record {
-        none_found = λ z. omega arith;
-        row_found = λ z. absurd (true≢false (sym z));
-        lowest = λ z. absurd (true≢false (sym z));
-        three = λ z. absurd (true≢false (sym z));
-      }
+  answers-none i k r l s =
+      let e = first-none (λ z. has_gap lo en hi b t (b + z)) (t - b) (λ z a. s.clear (b + z) (omega arith) (omega arith)) in omega arith

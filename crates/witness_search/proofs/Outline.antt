@@ -1,13 +1,13 @@
 -- What the two passes find for an outline: the arrays have the ends of its block's rows, so the laws for rows apply.
 use Prim.Native.Nat.{ℕ, pred, ◌+◌, ◌-◌, ◌≤◌, ◌<◌}
 use mathlib.Core.Path.{◌≡◌, refl, sym, ap, ◌∙◌, subst, subst₂}
-use mathlib.Core.Bool.{Bool, true, false, true≢false, cond}
 use mathlib.Core.List.{List}
 use native.Mathlib.Omega.{arith}
 use lib.Dec.{ltb}
 use borrow.Author.Tests.{lt-ltb, le-ltb}
 use Rattle.base.specs.Below.{first}
 use Rattle.base.proofs.BelowLaws.{first-is, first-none}
+use Rattle.std.specs.Prelude.{Option, Some, None}
 use Rattle.chart.specs.Limits.{side}
 use Rattle.chart.specs.declared.Point.{Point}
 use Rattle.chart.specs.Outline.{Outline, at}
@@ -23,13 +23,14 @@ use Rattle.completion.proofs.LeftSide.{lowest-row}
 use Rattle.completion.proofs.BlockEnds.{block-joined, rows_fit}
 use Rattle.completion.proofs.Sides.{highest-corner}
 use Rattle.witness.specs.Three.{first_in, last_in, from_row, three_for}
-use Rattle.witness.specs.Gap.{open_column, has_gap, lowest_row, lowest_open, is_missing, lowest_missing, witness_for, witness_of}
+use Rattle.witness.specs.Gap.{open_column, has_gap, lowest_row, lowest_open, lowest_missing, witness_for, witness_of}
 use Rattle.witness.proofs.Gap.{FirstRun, finds, none-missing}
 use Rattle.witness.proofs.Alike.{three-alike}
 use Rattle.witness.proofs.Theorem.{missing-iff, full-iff, lowest-is}
 use Rattle.witness.proofs.FirstInterval.{side-ends, first_run}
 use Rattle.row_sides.specs.parts.Passed.{Passed}
-use Rattle.witness_search.specs.parts.Answers.{three_by, Shows, Answers, Finds}
+use Rattle.witness_search.specs.declared.Shown.{Shown}
+use Rattle.witness_search.specs.parts.Answers.{three_by, Shows, Lowest, Answers, Finds}
 
 module _ (o : Outline) (h : Simple o) (lo en hi : List ℕ) (b t : ℕ) (p : Passed o lo en hi b t) where
   pub top : t ≤ side
@@ -81,25 +82,18 @@ module _ (o : Outline) (h : Simple o) (lo en hi : List ℕ) (b t : ℕ) (p : Pas
       ((hull-iff (block o) (rows lo) (rows hi) b t array-ends x).0 k)
       ∙ (λ i. three_for (first_side o) (last_side o) (p.lowest i) (p.highest i) x)
 
-  pub found_of : (found : Bool) (x u v w : Point) → Answers (rows lo) (rows en) (rows hi) b t found x u v w → Finds o found x u v w
+  pub found_of : (r : Option Shown) → Answers (rows lo) (rows en) (rows hi) b t r → Finds o r
   unfolding witness_of
-  found_of found x u v w a =
-      let low : found ≡ true
-      → LowestMissing (block o) x =
-      λ e. subst (LowestMissing (block o)) (sym (a.lowest e))
-      (finds (block o) (rows lo) (rows en) (rows hi) b t array-ends array_runs (a.row_found e)) in
-      let here : found ≡ true → lowest_missing o ≡ x = λ e. lowest-is o h x (low e) in
+  found_of None l = (full-iff o h).1 (none-missing (block o) (rows lo) (rows en) (rows hi) b t array-ends array_runs l)
+  found_of (Some s) a =
+      let low : LowestMissing (block o) s.cell =
+      subst (LowestMissing (block o)) (sym a.lowest) (finds (block o) (rows lo) (rows en) (rows hi) b t array-ends array_runs a.row) in
+      let here : lowest_missing o ≡ s.cell = lowest-is o h s.cell low in
       record {
-        missing =
-            told found refl (λ e. (missing-iff o h).1 (x, (low e).missing))
-            (λ e. (full-iff o h).1 (none-missing (block o) (rows lo) (rows en) (rows hi) b t array-ends array_runs (a.none_found e)));
-        lowest = λ e. sym (here e);
-        three = λ e. ap (witness_for o) (here e) ∙ sym (three-sent x (low e).missing.hull) ∙ a.three e;
+        missing = (missing-iff o h).1 (s.cell, low.missing);
+        lowest = sym here;
+        three = ap (witness_for o) here ∙ sym (three-sent s.cell low.missing.hull) ∙ a.three;
       }
-    where
-      told : (c : Bool) → found ≡ c → (found ≡ true → is_missing o ≡ true) → (found ≡ false → is_missing o ≡ false) → found ≡ is_missing o
-      told true e y n = e ∙ sym (y e)
-      told false e y n = e ∙ sym (n e)
 
 -- The rows of the corners under other names
 pub passed-at : (o : Outline) (lo en hi : List ℕ) (low high b t : ℕ) → b ≡ low → t ≡ high → Passed o lo en hi low high
@@ -125,33 +119,26 @@ module _ (lo en hi : ℕ → ℕ) (b : ℕ) (fits : hi b ≤ side) (run : lo b <
   test-is : (z : ℕ) → z < b + 1 - b → has_gap lo en hi b (b + 1) (b + z) ≡ ltb (en b) (hi b)
   test-is z l = let e : b + z ≡ b = omega arith in rw e gap_is
 
-  pub single-none : hi b ≤ en b → (found : Bool) (x u v w : Point) → found ≡ false → Answers lo en hi b (b + 1) found x u v w
+  pub single-none : hi b ≤ en b → b + 1 ≤ lowest_row lo en hi b (b + 1)
   unfolding lowest_row
-  single-none l found x u v w f =
-      let e = first-none (λ z. has_gap lo en hi b (b + 1) (b + z)) (b + 1 - b) (λ z a. test-is z a ∙ le-ltb (en b) (hi b) l) in
-      record {
-        none_found = λ z. omega arith;
-        row_found = λ z. absurd (true≢false (sym z ∙ f));
-        lowest = λ z. absurd (true≢false (sym z ∙ f));
-        three = λ z. absurd (true≢false (sym z ∙ f));
-      }
+  single-none l =
+      let e = first-none (λ z. has_gap lo en hi b (b + 1) (b + z)) (b + 1 - b) (λ z a. test-is z a ∙ le-ltb (en b) (hi b) l) in omega arith
 
   same : en b < hi b → three_for lo hi b (b + 1) (at (en b) b) ≡ three_by lo hi b b b b (en b) b
   unfolding three_for three_by from_row first_in last_in
   same l = rw (le-ltb (en b) (lo b) (omega arith), lt-ltb (en b) (hi b) l) refl
 
-  pub single-found : en b < hi b → (found : Bool) (x u v w : Point) → Shows lo hi b b b b (en b) b found x u v w
-      → Answers lo en hi b (b + 1) found x u v w
+  pub single-found : en b < hi b → (s : Shown) → Shows lo hi b b b b (en b) b s.cell s.a s.b s.d → Lowest lo en hi b (b + 1) s
   unfolding lowest_row lowest_open
-  single-found l found x u v w s =
+  single-found l s h =
       let e0 =
       first-is (λ z. has_gap lo en hi b (b + 1) (b + z)) (b + 1 - b) 0 (omega arith) (λ z a. absurd (omega arith))
       (test-is 0 (omega arith) ∙ lt-ltb (en b) (hi b) l) in
       let e : b + first (λ z. has_gap lo en hi b (b + 1) (b + z)) (b + 1 - b) ≡ b = omega arith in
       record {
-        none_found = λ z. absurd (true≢false (sym s.is_found ∙ z));
-        row_found = λ z. omega arith;
-        lowest = λ z. s.is_cell
+        row = omega arith;
+        lowest =
+            h.is_cell
             ∙ point-eq (at (en b) b) (lowest_open lo en hi b (b + 1)) (sym column-is ∙ ap (open_column lo en hi b (b + 1)) (sym e)) (sym e);
-        three = λ z. ap (three_for lo hi b (b + 1)) s.is_cell ∙ same l ∙ s.three;
+        three = ap (three_for lo hi b (b + 1)) h.is_cell ∙ same l ∙ h.three;
       }

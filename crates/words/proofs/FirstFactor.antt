@@ -14,6 +14,7 @@ use lib.Dec.{eqb}
 use borrow.Author.Tests.{eq-eqb, ne_eqb}
 use Rattle.words.specs.Word.{Word, Begins, word_of, laters}
 use Rattle.words.specs.Lyndon.{Lyndon, copies, factors_of}
+use Rattle.std.specs.Prelude.{Some, None}
 use Rattle.words.specs.parts.Search.{rank, rank_of, first_of}
 use Rattle.words.proofs.WordOf.{length-word_of, letter-word_of}
 use Rattle.words.proofs.Lyndon.{lyndon-single, length_cut}
@@ -171,7 +172,7 @@ module _ {w : Word} {i j : ℕ} (r : Read w i j) where
   -- At the stop the copies are the first factor
   found :
       Stops r.word (r.begun ++ drop j w)
-      → first_of (factors_of w) ≡ record { length = j - i; times = j / (j - i); laters = laters (take (j - i) w) }
+      → first_of (factors_of w) ≡ Some (record { length = j - i; times = j / (j - i); laters = laters (take (j - i) w) })
   unfolding first_of
   found s =
       let p : j - i ≡ length r.word = omega (arith, r.gap) in
@@ -182,7 +183,7 @@ module _ {w : Word} {i j : ℕ} (r : Read w i j) where
       in
       rw (read-period, p, m) (ap first_of f)
 
-  pub found-at-end : length w ≤ j → first_of (factors_of w) ≡ record { length = j - i; times = j / (j - i); laters = laters (take (j - i) w) }
+  pub found-at-end : length w ≤ j → first_of (factors_of w) ≡ Some (record { length = j - i; times = j / (j - i); laters = laters (take (j - i) w) })
   found-at-end h =
       found (rw (drop_of_length-le w h, append-nil r.begun) (stops-at-end r.begun r.next r.rest r.proper))
 
@@ -190,7 +191,7 @@ module _ {w : Word} {i j : ℕ} (r : Read w i j) where
       j < length w
       → get_or w i false ≡ true
       → get_or w j false ≡ false
-      → first_of (factors_of w) ≡ record { length = j - i; times = j / (j - i); laters = laters (take (j - i) w) }
+      → first_of (factors_of w) ≡ Some (record { length = j - i; times = j / (j - i); laters = laters (take (j - i) w) })
   found-at-smaller h e f =
       found (rw (drop-cons w j false h, f) (stops-at-smaller r.begun r.rest (drop (suc j) w) (rw (← e, read-letter) r.proper)))
 
@@ -347,23 +348,23 @@ module _ {l : List ℕ} {from later i j all one : ℕ} (s : Search l from later 
   -- The answer when the search stops
   answer :
       first_of (factors_of (word_of later (drop from l)))
-      ≡ record {
+      ≡ Some (record {
         length = j - from - (i - from);
         times = (j - from) / (j - from - (i - from));
         laters = laters (take (j - from - (i - from)) (word_of later (drop from l)));
-      }
-      → record { length = j - i; times = (j - from) / (j - i); laters = one } ≡ first_of (factors_of (word_of later (drop from l)))
+      })
+      → Some (record { length = j - i; times = (j - from) / (j - i); laters = one }) ≡ first_of (factors_of (word_of later (drop from l)))
   answer e = let d : j - from - (i - from) ≡ j - i = omega (arith, s.start, s.ahead) in rw s.period (sym (rw d at e))
 
   pub search-end :
-      length l ≤ j → record { length = j - i; times = (j - from) / (j - i); laters = one }
+      length l ≤ j → Some (record { length = j - i; times = (j - from) / (j - i); laters = one })
       ≡ first_of (factors_of (word_of later (drop from l)))
   search-end h = answer (found-at-end s.read (omega (arith, length-after l from later)))
 
   search-smaller :
       j < length l
       → rank_of (get_or l j 0) later < rank_of (get_or l i 0) later
-      → record { length = j - i; times = (j - from) / (j - i); laters = one } ≡ first_of (factors_of (word_of later (drop from l)))
+      → Some (record { length = j - i; times = (j - from) / (j - i); laters = one }) ≡ first_of (factors_of (word_of later (drop from l)))
   search-smaller h k =
       let p = rank_lt (eqb (get_or l j 0) later) (eqb (get_or l i 0) later) k in
       answer (found-at-smaller s.read (inside h) (here ∙ p.1) (there h ∙ p.0))
@@ -388,7 +389,7 @@ module _ {l : List ℕ} {from later i j all one : ℕ} (s : Search l from later 
       search-same h (omega arith) (omega arith)
 
   pub pair-smaller : j < length l → (get_or l j 0 ≡ later → ⊥) → get_or l i 0 ≡ later
-      → record { length = j - i; times = (j - from) / (j - i); laters = one } ≡ first_of (factors_of (word_of later (drop from l)))
+      → Some (record { length = j - i; times = (j - from) / (j - i); laters = one }) ≡ first_of (factors_of (word_of later (drop from l)))
   pair-smaller h m e =
       let a = rank-later (get_or l i 0) later e in
       let b = rank-other (get_or l j 0) later m in
@@ -397,6 +398,6 @@ module _ {l : List ℕ} {from later i j all one : ℕ} (s : Search l from later 
 -- After the list's end there are no letters
 pub search-none :
     (l : List ℕ) (from later : ℕ) → length l ≤ from
-    → record { length = 0; times = 0; laters = 0 } ≡ first_of (factors_of (word_of later (drop from l)))
+    → None ≡ first_of (factors_of (word_of later (drop from l)))
 unfolding word_of factors_of first_of
 search-none l from later h = rw (drop_of_length-le l h)

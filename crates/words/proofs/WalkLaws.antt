@@ -2,12 +2,14 @@
 -- factorisation of the word that they spell.
 use Prim.Native.Nat.{ℕ, ◌+◌, ◌*◌, ◌≤◌, ◌<◌}
 use native.Mathlib.Nat.{mul-le-mul_right}
+use native.Mathlib.Decide.{dec_lt}
 use native.Mathlib.Omega.{arith}
 use mathlib.Core.Path.{◌≡◌, refl, sym, ap, ◌∙◌, subst}
-use mathlib.Core.Bool.{false}
+use mathlib.Core.Bool.{Bool}
 use mathlib.Core.List.{List, [], ◌∷◌, ◌++◌}
 use lib.ListN.{length, take, drop, length-append, length-drop, drop_of_length-le}
 use lib.Seq.{take-append_seam, drop_at, drop-drop}
+use Rattle.std.specs.Prelude.{Some, None}
 use Rattle.words.specs.Word.{Word, word_of, laters}
 use Rattle.words.specs.Lyndon.{Factor, copies, written, Proper, Factoring, factors_of}
 use Rattle.words.specs.parts.Search.{judge, judged, first_of}
@@ -114,53 +116,78 @@ step_of l at later f fs h e =
           ∙ ap factors_of (sym (word_of-drop later size (drop at l)) ∙ ap (word_of later) (drop-drop size at l)));
     }
 
-pub step-at : (l : List ℕ) (at later : ℕ) → at < length l → {r : JudgedFactor} → r ≡ judged (factors_of (word_of later (drop at l)))
-    → Step l at later r
-unfolding judged
-step-at l at later h e =
-    let d = factors-head (word_of later (drop at l)) (omega (arith, length-word_of later (drop at l), length-drop at l)) in
-    subst (λ (r : JudgedFactor). Step l at later r) (sym (e ∙ ap judged d.factors))
-    (step_of l at later d.first d.others h d.factors)
-
--- At the end of the list there is no factor
-pub judged-none : (l : List ℕ) (at later : ℕ) → length l ≤ at
-    → record { length = 0; times = 0; laters = 0; christoffel = false } ≡ judged (factors_of (word_of later (drop at l)))
+-- There is a factor only before the end of the list
+judged-none : (l : List ℕ) (at later : ℕ) → length l ≤ at → None ≡ judged (factors_of (word_of later (drop at l)))
 unfolding word_of factors_of judged
 judged-none l at later h = rw (drop_of_length-le l h)
 
--- The search finds the factor that is judged
-first-judged : (fs : List Factor) → first_of fs ≡ record { length = (judged fs).length; times = (judged fs).times; laters = (judged fs).laters }
+pub judged-within : (l : List ℕ) (at later : ℕ) {r : JudgedFactor} → Some r ≡ judged (factors_of (word_of later (drop at l))) → at < length l
+judged-within l at later {r} e =
+    elim (dec_lt at (length l)) [
+      | yes h ↦ h
+      | no h ↦ let n : Some r ≡ None = e ∙ sym (judged-none l at later (omega arith)) in cc
+    ]
+
+pub judged_end : (l : List ℕ) (at later : ℕ) → None ≡ judged (factors_of (word_of later (drop at l))) → length l ≤ at
+unfolding judged
+judged_end l at later e =
+    elim (dec_lt at (length l)) [
+      | yes h ↦
+          let d = factors-head (word_of later (drop at l)) (omega (arith, length-word_of later (drop at l), length-drop at l)) in
+          let n : None ≡ Some (judge d.first) = e ∙ ap judged d.factors in
+          cc
+      | no h ↦ omega arith
+    ]
+
+pub step-at : (l : List ℕ) (at later : ℕ) {r : JudgedFactor} → Some r ≡ judged (factors_of (word_of later (drop at l))) → Step l at later r
+unfolding judged
+step-at l at later {r} e =
+    let h = judged-within l at later e in
+    let d = factors-head (word_of later (drop at l)) (omega (arith, length-word_of later (drop at l), length-drop at l)) in
+    let same : Some r ≡ Some (judge d.first) = e ∙ ap judged d.factors in
+    let q : r ≡ judge d.first = cc in
+    subst (λ (r : JudgedFactor). Step l at later r) (sym q) (step_of l at later d.first d.others h d.factors)
+
+-- The list has no factor, or its first one
+pub searched-none : (fs : List Factor) → None ≡ first_of fs → None ≡ judged fs
 unfolding first_of judged
-first-judged [] = refl
-first-judged (f ∷ fs) = refl
+searched-none [] e = refl
+searched-none (f ∷ fs) e = cc
 
-module _ (l : List ℕ) (at later : ℕ) (h : at < length l) {r : Found} (e : r ≡ first_of (factors_of (word_of later (drop at l)))) where
-  step : Step l at later (judged (factors_of (word_of later (drop at l))))
-  step = step-at l at later h refl
+searched-first : (fs : List Factor) {r : Found} → Some r ≡ first_of fs
+    → (f : Factor) × (judged fs ≡ Some (judge f)) × (r ≡ record { length = length f.word; times = f.times; laters = laters f.word })
+unfolding first_of judged
+searched-first [] e = cc
+searched-first (f ∷ fs) e = (f, refl, cc)
 
-  found :
-      r
-      ≡ record {
-        length = (judged (factors_of (word_of later (drop at l)))).length;
-        times = (judged (factors_of (word_of later (drop at l)))).times;
-        laters = (judged (factors_of (word_of later (drop at l)))).laters;
-      }
-  found = e ∙ first-judged (factors_of (word_of later (drop at l)))
+module _ (l : List ℕ) (at later : ℕ) {r : Found} (e : Some r ≡ first_of (factors_of (word_of later (drop at l)))) where
+  first-found : (f : Factor) × (judged (factors_of (word_of later (drop at l))) ≡ Some (judge f))
+      × (r ≡ record { length = length f.word; times = f.times; laters = laters f.word })
+  first-found = searched-first (factors_of (word_of later (drop at l))) e
+
+  step : Step l at later (judge first-found.0)
+  step = step-at l at later (sym first-found.1)
 
   pub found-fits : at + r.length ≤ length l
-  found-fits = rw found step.fits
+  found-fits = rw first-found.2 step.fits
 
   -- The count is that of one copy
   pub found-counted : r.laters ≡ laters (word_of later (take r.length (drop at l)))
-  found-counted = rw (found, ← step.copy, step.read)
+  found-counted = rw (first-found.2, ← step.copy) (ap (λ (x : JudgedFactor). x.laters) step.read)
 
   -- The test of one copy completes the judgement
   pub found-judged :
-      record {
+      Some (record {
         length = r.length;
         times = r.times;
         laters = r.laters;
         christoffel = christoffel (word_of later (take r.length (drop at l)));
-      }
+      })
       ≡ judged (factors_of (word_of later (drop at l)))
-  found-judged = rw (found, ← step.copy, step.read)
+  found-judged = rw (first-found.2, first-found.1, ← step.copy)
+      (ap (λ (b : Bool). Some (record {
+        length = length first-found.0.word;
+        times = first-found.0.times;
+        laters = laters first-found.0.word;
+        christoffel = b;
+      })) (sym (ap (λ (x : JudgedFactor). x.christoffel) step.read)))

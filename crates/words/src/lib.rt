@@ -5,7 +5,10 @@ ghost use Rattle.std.specs.Prelude.{◌+◌, ◌%◌, ◌<◌, ◌≤◌, ◌≡
 ghost use Rattle.words.specs.Word.{word_of, laters};
 ghost use Rattle.words.specs.Lyndon.{factors_of};
 ghost use Rattle.words.specs.Christoffel.{coprime, remainders, christoffel};
-ghost use Rattle.words.specs.parts.Search.{rank_of, first_of, judged};
+ghost use Rattle.words.specs.parts.Search.{first_of, judged};
+
+// Letters and the later letter of two go together in all that follows. They stay two parameters: a part of the letters is a word, too, and
+// a struct would be built anew for each part.
 
 // The first factor of a word: the length of one copy, the number of repeats, and the later letters of one copy.
 #[derive(Clone, Copy)]
@@ -15,50 +18,37 @@ pub struct Found {
     pub laters: u32,
 }
 
-// 1 for the later letter, 0 for any other.
-fn rank(letter: u8, later: u8) -> u32
-    ensures { result ≡ rank_of letter later }
-{
-    if letter == later { 1 } else { 0 }
-}
-
-// The first factor (contract 3.9) of the letters from `from` on, in one pass (Duval). All fields are 0 if there are no letters.
-pub fn first_factor(w: &[u8], from: usize, later: u8) -> Found
+// The first factor (contract 3.9) of the letters from `from` on, in one pass (Duval).
+pub fn first_factor(w: &[u8], from: usize, later: u8) -> Option<Found>
     requires { length w.now < 4294967296 }
     ensures { result ≡ first_of (factors_of (word_of later (drop from w.now))) }
 {
     if w.len() <= from {
-        return Found {
-            length: 0,
-            times: 0,
-            laters: 0,
-        };
+        return None;
     }
     let count = w.len() as u32;
     let start = from as u32;
     let mut i = start;
     let mut j = start + 1;
     // The later letters of everything read so far, and those of one period of it.
-    let mut read = rank(w[from], later);
+    let mut read = u32::from(w[from] == later);
     let mut laters = read;
+    // Two places move at two paces, and a break ends the loop between them: a `for` is no plainer.
     while j < count {
         let a = w[i as usize];
         let letter = w[j as usize];
-        let b = rank(letter, later);
+        let b = u32::from(letter == later);
         // Nearly every letter equals the one a period before it and continues the period.
         if a == letter {
             i += 1;
-        } else {
+        } else if letter == later {
             // A larger letter makes everything read so far one Lyndon word.
-            if letter == later {
-                i = start;
-                laters = read + b;
-            } else {
-                if a == later {
-                    break;
-                }
-                i += 1;
-            }
+            i = start;
+            laters = read + b;
+        } else if a == later {
+            break;
+        } else {
+            i += 1;
         }
         read += b;
         j += 1;
@@ -66,11 +56,11 @@ pub fn first_factor(w: &[u8], from: usize, later: u8) -> Found
     let length = j - i;
     let span = j - start;
     let times = span / length;
-    Found {
+    Some(Found {
         length,
         times,
         laters,
-    }
+    })
 }
 
 // (rem + k) mod n, with no sum above n.
@@ -89,8 +79,7 @@ fn follows_remainders(w: &[u8], k: u32, later: u8) -> bool
 {
     let count = w.len() as u32;
     let mut rem: u32 = 0;
-    let mut i: u32 = 0;
-    while i < count {
+    for i in 0..count {
         // k and the length have a common divisor exactly if a remainder before the last is 0.
         if rem == 0 && 0 < i {
             return false;
@@ -101,7 +90,6 @@ fn follows_remainders(w: &[u8], k: u32, later: u8) -> bool
             return false;
         }
         rem = next;
-        i += 1;
     }
     true
 }
@@ -118,6 +106,7 @@ fn is_christoffel(w: &[u8], k: u32, later: u8) -> bool
 }
 
 // A factor, the later letters of one copy, and whether it is a Christoffel word.
+// The fields of `Found` stand here again: `factor.found.length` would be no plainer for its callers.
 #[derive(Clone, Copy)]
 pub struct JudgedFactor {
     pub length: u32,
@@ -127,25 +116,17 @@ pub struct JudgedFactor {
 }
 
 // One step of a loop over all factors: the first factor of the letters from `at` on. The next factor starts times · length letters later.
-pub fn factor_at(w: &[u8], at: usize, later: u8) -> JudgedFactor
+pub fn factor_at(w: &[u8], at: usize, later: u8) -> Option<JudgedFactor>
     requires { length w.now < 4294967296 }
     ensures { result ≡ judged (factors_of (word_of later (drop at w.now))) }
 {
-    if w.len() <= at {
-        return JudgedFactor {
-            length: 0,
-            times: 0,
-            laters: 0,
-            christoffel: false,
-        };
-    }
-    let found = first_factor(w, at, later);
+    let found = first_factor(w, at, later)?;
     let end = at + found.length as usize;
     let copy = &w[at..end];
-    JudgedFactor {
+    Some(JudgedFactor {
         length: found.length,
         times: found.times,
         laters: found.laters,
         christoffel: is_christoffel(copy, found.laters, later),
-    }
+    })
 }

@@ -1,11 +1,7 @@
 -- No piece passed has a back-step, and the search stops at the first that has one.
-use Prim.Native.Nat.{◌-◌}
 use Rattle.convexity.specs.Pieces.{rounds}
 use Rattle.back_steps.proofs.BackStepLaws.{Searched}
 use Rattle.back_steps.proofs.first.Given as goal
 
 abbrev pub invariant-loop-k : goal.invariant-loop-k
 invariant-loop-k l = Searched (rounds l.letters) l.at l.k
-
-abbrev pub decreases-loop-k : goal.decreases-loop-k
-decreases-loop-k l = 4 - l.k

@@ -21,8 +21,8 @@ piece-letter {i = i} k h l e = ap (is_back_step (frame_of k)) (part-letter h i l
 pub loop-i-init : goal.loop-i-init
 loop-i-init c = passed_start _ _
 
-pub overflow_sub-to : goal.overflow_sub-to
-overflow_sub-to c = let h = c.requires in omega (arith, h.rises)
+pub overflow_sub-i-end : goal.overflow_sub-i-end
+overflow_sub-i-end c = let h = c.requires in omega (arith, h.rises)
 
 pub overflow_add-from : goal.overflow_add-from
 overflow_add-from c = let h = c.requires in omega (arith, h.short, h.round, h.rises, c.loop-i-test.true)
@@ -46,4 +46,6 @@ loop-i-preserved c =
     ])
 
 pub returns : goal.returns
-returns c = passed-end c.loop-i.invariant (rw (part_length c.requires) c.loop-i-test.false)
+returns c =
+    let all : c.args.to - c.args.from ≡ c.loop-i.i = omega arith in
+    all ∙ passed-end c.loop-i.invariant (rw (part_length c.requires) c.loop-i-test.false)

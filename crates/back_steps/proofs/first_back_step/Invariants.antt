@@ -1,5 +1,4 @@
 -- No letter passed is a back-step, and the search stops at the first that is.
-use Prim.Native.Nat.{◌-◌}
 use Rattle.convexity.specs.Pieces.{rounds}
 use Rattle.back_steps.specs.parts.BackSteps.{part}
 use Rattle.back_steps.proofs.BackStepLaws.{Passed}
@@ -7,6 +6,3 @@ use Rattle.back_steps.proofs.first_back_step.Given as goal
 
 abbrev pub invariant-loop-i : goal.invariant-loop-i
 invariant-loop-i l = Passed (part l.from l.to (rounds l.letters)) l.k l.i
-
-abbrev pub decreases-loop-i : goal.decreases-loop-i
-decreases-loop-i l = l.to - l.from - l.i

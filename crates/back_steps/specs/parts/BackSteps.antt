@@ -1,5 +1,5 @@
 -- What the search for the first back-step promises, for every border whose pieces lie in the buffer between the cut places.
-use Rattle.std.specs.Prelude.{ℕ, ◌+◌, ◌-◌, ◌*◌, ◌≤◌, ◌<◌, ◌≡◌, List, length, get_or, take, drop}
+use Rattle.std.specs.Prelude.{ℕ, ◌+◌, ◌-◌, ◌*◌, ◌≤◌, ◌<◌, ◌≡◌, List, length, get_or, take, drop, Option, Some, None}
 use Rattle.base.specs.Below.{first}
 use Rattle.chart.specs.Limits.{longest}
 use Rattle.chart.specs.Outline.{Outline}
@@ -7,7 +7,6 @@ use Rattle.convexity.specs.Frame.{frame_of}
 use Rattle.convexity.specs.Cut.{cut}
 use Rattle.convexity.specs.Pieces.{is_back_step, back_step_at, back_step_piece}
 use Rattle.back_steps.specs.declared.BackStep.{BackStep}
-use Rattle.back_steps.specs.declared.BackStep.TheVariants.{None, At}
 use Rattle.pieces.specs.parts.Pieces.{Laid}
 
 -- The letters of a list from a place on up to another
@@ -34,6 +33,6 @@ pub record FoundAt (buffer cuts : List ℕ) (k i : ℕ) : Type 0 where
   pub at_le : i ≤ length buffer
   pub step : (o : Outline) → Laid o cuts buffer → StepIs o k i
 
-abbrev pub Found : List ℕ → List ℕ → BackStep → Type 0
+abbrev pub Found : List ℕ → List ℕ → Option BackStep → Type 0
 Found buffer cuts None = (o : Outline) → Laid o cuts buffer → back_step_piece o ≡ 4
-Found buffer cuts (At k i) = FoundAt buffer cuts k i
+Found buffer cuts (Some step) = FoundAt buffer cuts step.piece step.at

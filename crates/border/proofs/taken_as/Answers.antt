@@ -13,33 +13,25 @@ use Rattle.border.proofs.taken_as.Goals as goal
 
 pub slice_bounds-numbers-end : goal.slice_bounds-numbers-end
 slice_bounds-numbers-end c =
-    let taken = sym c.test-verdict.ensures.verdict ∙ c.in-Taken.is in
+    let taken = sym c.test.ensures.verdict ∙ c.in-Ok.is in
     let a = c.args in
-    omega (arith, (roomy (outline a.anchor a.letters.now) (length zeros) _ _ taken).room, c.test-verdict.auto.edges)
+    omega (arith, (roomy (outline a.anchor a.letters.now) (length zeros) _ _ taken).room, c.test.auto.edges)
 
-pub slice_bounds-same_numbers-end : goal.slice_bounds-same_numbers-end
-slice_bounds-same_numbers-end c =
-    let taken = sym c.test-verdict.ensures.verdict ∙ c.in-Taken.is in
+pub slice_bounds-same_edges-end : goal.slice_bounds-same_edges-end
+slice_bounds-same_edges-end c =
+    let taken = sym c.test.ensures.verdict ∙ c.in-Ok.is in
     let a = c.args in
     let r = (roomy (outline a.anchor a.letters.now) (length zeros) _ _ taken).room in
-    sym (length-take-le _ _ (omega (arith, r, c.test-verdict.auto.edges)))
+    sym (length-take-le _ _ (omega (arith, r, c.test.auto.edges)))
 
-pub returns-in-Refused : goal.returns-in-Refused
-returns-in-Refused c =
+pub returns-in-Err : goal.returns-in-Err
+returns-in-Err c =
     let a = c.args in
     sym (not_taken (outline a.anchor a.letters.now) a.anchor a.edges.now zeros
-    (omega (arith, length-replicate most_numbers (pos 0))) (sym c.test-verdict.ensures.verdict ∙ c.in-Refused.is))
+    (omega (arith, length-replicate most_numbers (pos 0))) (sym c.test.ensures.verdict ∙ c.in-Err.is))
 
-pub returns-then-same_point : goal.returns-then-same_point
-returns-then-same_point c =
-    let taken = sym c.test-verdict.ensures.verdict ∙ c.in-Taken.is in
-    let a = c.args in
-    sym (taken-compared (outline a.anchor a.letters.now) _ _ zeros taken c.test-verdict.ensures.edges
-    ∙ rw (sym c.same_point.ensures ∙ c.if-same_point.true) (sym c.same_numbers.ensures))
-
-pub returns-else-same_point : goal.returns-else-same_point
-returns-else-same_point c =
-    let taken = sym c.test-verdict.ensures.verdict ∙ c.in-Taken.is in
-    let a = c.args in
-    c.if-same_point.false ∙ sym (taken-compared (outline a.anchor a.letters.now) _ _ zeros taken c.test-verdict.ensures.edges
-    ∙ rw (sym c.same_point.ensures ∙ c.if-same_point.false))
+pub returns-in-Ok : goal.returns-in-Ok
+returns-in-Ok c =
+    let taken = sym c.test.ensures.verdict ∙ c.in-Ok.is in
+    (rw c.from-n.ensures at c.same_edges.ensures)
+    ∙ sym (taken-compared (outline c.args.anchor c.args.letters.now) _ _ zeros taken c.test.ensures.edges)

@@ -1,10 +1,11 @@
 -- No piece passed has a dent, their edges are in the list in order, and the search stops at the first dent.
-use Prim.Native.Nat.{◌-◌}
+use mathlib.Core.Path.{◌≡◌}
 use Rattle.dents.proofs.DentLaws.{Passed}
 use Rattle.dents.proofs.read.Given as goal
 
 abbrev pub invariant-loop-k : goal.invariant-loop-k
-invariant-loop-k l = Passed l.ring l.at l.initial.list l.list l.edges l.k
-
-abbrev pub decreases-loop-k : goal.decreases-loop-k
-decreases-loop-k l = 4 - l.k
+invariant-loop-k l =
+    record {
+      same_reference : l.edges.list.ghost_name ≡ l.initial.edges.list.ghost_name;
+      passed : Passed l.ring l.at l.initial.edges.list.now l.edges.list.now l.edges.count l.k;
+    }

@@ -4,8 +4,8 @@ use lib.ListN.{length}
 use Rattle.fitting_listing.proofs.ListingLaws.{Going}
 use Rattle.fitting_listing.proofs.list_records.Given as goal
 
-abbrev pub invariant-loop-text : goal.invariant-loop-text
-invariant-loop-text l = Going l.file l.initial.text l.text l.at l.number l.end
+abbrev pub invariant-loop-record : goal.invariant-loop-record
+invariant-loop-record l = Going l.file l.initial.text l.text l.at l.number l.end
 
-abbrev pub decreases-loop-text : goal.decreases-loop-text
-decreases-loop-text l = length l.file - l.at
+abbrev pub decreases-loop-record : goal.decreases-loop-record
+decreases-loop-record l = length l.file - l.at

@@ -14,9 +14,9 @@ front (y ∷ t) [] r e = let z : r ≡ 0 = omega (arith, e) in rw z refl
 front (y ∷ t) (x ∷ b) zero e = absurd (omega (arith, e))
 front (y ∷ t) (x ∷ b) (suc r) e = ap (λ (l : List ℕ). y ∷ l) (front t b r (omega (arith, e)))
 
-pub returns-in-Ok : goal.returns-in-Ok
-returns-in-Ok g c =
+pub returns : goal.returns
+returns g c =
     let t = text_of (lines_of c.args.file.now) in
     let e : take c.list-end.result c.list-end.new.text ≡ take (length c.args.text.now) t =
     rw c.list-end.ensures.text (front t c.args.text.now c.list-end.result c.list-end.ensures.end) in
-    λ _. rw (← e) c.in-Ok.ensures.bytes
+    rw (← e) c.write_all.ensures.bytes

@@ -13,14 +13,15 @@ overflow_add-slot c = omega (arith, c.free_tag-tag.ensures, tag_below c.args.hea
 pub fill-requires : goal.fill-requires
 fill-requires c = omega (arith, c.free_tag-tag.ensures, tag_below c.args.heads.now c.args.p, c.requires.0)
 
-pub returns-in-Refused : goal.returns-in-Refused
-returns-in-Refused c = λ own.
-    outline-refused (arrays own c.args.rows.now c.args.numbers.now c.args.heads.now) _ _ _ _
-    (judged-of _ c.judge-verdict.ensures.value c.judge-verdict.ensures.buffer_after) _ c.in-Refused.is
+pub returns-in-Err : goal.returns-in-Err
+returns-in-Err c = λ own.
+    rw c.refused.ensures
+    (outline-refused (arrays own c.args.rows.now c.args.numbers.now c.args.heads.now) _ _ _ _
+    (judged-of _ c.judge-verdict.ensures.value c.judge-verdict.ensures.buffer_after) _ c.in-Err.is)
 
-pub returns-in-Taken : goal.returns-in-Taken
-returns-in-Taken c = λ own.
+pub returns-in-Ok : goal.returns-in-Ok
+returns-in-Ok c = λ own.
     outline-taken (arrays own c.args.rows.now c.args.numbers.now c.args.heads.now) _ _ _ _
-    (judged-of _ c.judge-verdict.ensures.value c.judge-verdict.ensures.buffer_after) _ _ c.in-Taken.is _
+    (judged-of _ c.judge-verdict.ensures.value c.judge-verdict.ensures.buffer_after) _ _ c.in-Ok.is _
     c.slot_of-own.ensures _ (c.has-same.ensures c.args.rows.now) _ c.taken_reply-reply.ensures _ c.free_tag-tag.ensures _
     c.word_of-word.ensures _ (c.fill.ensures own)

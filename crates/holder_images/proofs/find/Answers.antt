@@ -18,21 +18,31 @@ returns-then-slot-ge-SLOTS c = λ own. holds-idle _ _ _ _ c.if-word-eq0.false _ 
 
 pub slice_bounds-same_rows-end : goal.slice_bounds-same_rows-end
 slice_bounds-same_rows-end c =
-    let few : c.in-Written.n ≤ longest =
+    let few : c.in-Ok.n ≤ longest =
     traced-count (work_at c.args.rows.now c.args.numbers.now c.args.heads.now c.slot_of-slot.result) _ _
     (c.anchor_at-anchor.ensures c.args.rows.now c.args.numbers.now) (c.edges_at-list.ensures c.args.rows.now)
-    c.args.letters.now c.border-traced.new.letters c.requires.5 _ c.border-traced.ensures.answer c.border-traced.ensures.outline
-    _ c.in-Written.is in
-    omega (arith, few, c.border-traced.auto.letters, c.requires.5)
+    c.args.letters.now c.border-traced.new.letters c.told-letters _ c.border-traced.ensures.answer c.border-traced.ensures.outline
+    _ c.in-Ok.is in
+    omega (arith, few, c.from-count.ensures, c.border-traced.auto.letters, c.told-letters)
 
-pub slice_bounds-same_rows-end-in-Written : goal.slice_bounds-same_rows-end-in-Written
-slice_bounds-same_rows-end-in-Written c =
-    let few : c.in-Written.n ≤ longest =
+pub slice_bounds-same_rows-end-in-Ok : goal.slice_bounds-same_rows-end-in-Ok
+slice_bounds-same_rows-end-in-Ok c =
+    let few : c.in-Ok.n ≤ longest =
     traced-count (work_at c.args.rows.now c.args.numbers.now c.args.heads.now c.slot_of-slot.result) _ _
     (c.anchor_at-anchor.ensures c.args.rows.now c.args.numbers.now) (c.edges_at-list.ensures c.args.rows.now)
-    c.args.letters.now c.border-traced.new.letters c.requires.5 _ c.border-traced.ensures.answer c.border-traced.ensures.outline
-    _ c.in-Written.is in
-    sym (length-take-le c.in-Written.n c.border-traced.new.letters (omega (arith, few, c.border-traced.auto.letters, c.requires.5)))
+    c.args.letters.now c.border-traced.new.letters c.told-letters _ c.border-traced.ensures.answer c.border-traced.ensures.outline
+    _ c.in-Ok.is in
+    rw c.from-count.ensures
+    (sym (length-take-le c.in-Ok.n c.border-traced.new.letters (omega (arith, few, c.border-traced.auto.letters, c.told-letters))))
+
+pub shared_ref_as_front-same_rows : goal.shared_ref_as_front-same_rows
+shared_ref_as_front-same_rows c =
+    let few : c.in-Ok.n ≤ longest =
+    traced-count (work_at c.args.rows.now c.args.numbers.now c.args.heads.now c.slot_of-slot.result) _ _
+    (c.anchor_at-anchor.ensures c.args.rows.now c.args.numbers.now) (c.edges_at-list.ensures c.args.rows.now)
+    c.args.letters.now c.border-traced.new.letters c.told-letters _ c.border-traced.ensures.answer c.border-traced.ensures.outline
+    _ c.in-Ok.is in
+    omega (arith, few, c.from-count.ensures)
 
 pub returns-then-same_rows : goal.returns-then-same_rows
 unfolding work_at
@@ -45,15 +55,16 @@ returns-then-same_rows c = λ own.
     let ea = c.anchor_at-anchor.ensures s.rows.now s.numbers.now in
     let ee = c.edges_at-list.ensures s.rows.now in
     let said = c.border-traced.ensures in
-    let n = c.in-Written.n in
-    let e = c.in-Written.is in
-    holds-whole h _ _ after c.if-word-eq0.false slot c.slot_of-slot.ensures _ n
-    (found-whole work _ _ ea ee s.letters.now after c.requires.5 _ said.answer said.outline n e
+    let n = c.in-Ok.n in
+    let e = c.in-Ok.is in
+    rw c.from-count.ensures
+    (holds-whole h _ _ after c.if-word-eq0.false slot c.slot_of-slot.ensures _ n
+    (found-whole work _ _ ea ee s.letters.now after c.told-letters _ said.answer said.outline n e
     (busy h s.p s.k after c.if-word-eq0.false slot c.slot_of-slot.ensures c.if-slot-ge-SLOTS.false)
-    (c.same_rows.ensures.0 c.if-same_rows.true))
-    (own_is work _ _ ea ee s.letters.now after c.requires.5 _ said.answer said.outline n e)
-    (traced-count work _ _ ea ee s.letters.now after c.requires.5 _ said.answer said.outline n e)
-    (anchor-fits work _ _ ea ee s.letters.now after c.requires.5 _ said.answer said.outline n e)
+    ((rw c.from-count.ensures at c.same_rows.ensures).0 c.if-same_rows.true))
+    (own_is work _ _ ea ee s.letters.now after c.told-letters _ said.answer said.outline n e)
+    (traced-count work _ _ ea ee s.letters.now after c.told-letters _ said.answer said.outline n e)
+    (anchor-fits work _ _ ea ee s.letters.now after c.told-letters _ said.answer said.outline n e))
 
 pub returns-else-same_rows : goal.returns-else-same_rows
 unfolding work_at
@@ -63,17 +74,17 @@ returns-else-same_rows c = λ own.
     holds-damaged (arrays own s.rows.now s.numbers.now s.heads.now) _ _ c.border-traced.new.letters c.if-word-eq0.false slot
     c.slot_of-slot.ensures
     (found-other (work_at s.rows.now s.numbers.now s.heads.now slot) _ _ (c.anchor_at-anchor.ensures s.rows.now s.numbers.now)
-    (c.edges_at-list.ensures s.rows.now) s.letters.now c.border-traced.new.letters c.requires.5 _ c.border-traced.ensures.answer
-    c.border-traced.ensures.outline _ c.in-Written.is
-    (λ e. true≢false (sym (c.same_rows.ensures.1 e) ∙ c.if-same_rows.false)))
+    (c.edges_at-list.ensures s.rows.now) s.letters.now c.border-traced.new.letters c.told-letters _ c.border-traced.ensures.answer
+    c.border-traced.ensures.outline _ c.in-Ok.is
+    (λ e. true≢false (sym ((rw c.from-count.ensures at c.same_rows.ensures).1 e) ∙ c.if-same_rows.false)))
 
-pub returns-in-Refused : goal.returns-in-Refused
-returns-in-Refused c = λ own.
+pub returns-in-Err : goal.returns-in-Err
+returns-in-Err c = λ own.
     let s = c.args in
     let slot = c.slot_of-slot.result in
     holds-damaged (arrays own s.rows.now s.numbers.now s.heads.now) _ _ c.border-traced.new.letters c.if-word-eq0.false slot
     c.slot_of-slot.ensures
     (found_none (work_at s.rows.now s.numbers.now s.heads.now slot) _ _ (c.anchor_at-anchor.ensures s.rows.now s.numbers.now)
-    (c.edges_at-list.ensures s.rows.now) s.letters.now c.border-traced.new.letters c.requires.5 _ c.border-traced.ensures.answer
+    (c.edges_at-list.ensures s.rows.now) s.letters.now c.border-traced.new.letters c.told-letters _ c.border-traced.ensures.answer
     c.border-traced.ensures.outline
-    (λ n e. let g = c.in-Refused.is in let z : ◌≡◌ {A = ℕ} 0 1 = cc in omega (arith, z)))
+    (λ n e. let g = c.in-Err.is in let z : ◌≡◌ {A = ℕ} 0 1 = cc in omega (arith, z)))

@@ -41,23 +41,24 @@ slice_bounds-ring-end c =
     c.requires.simple c.requires.found_value c.cut_places-cuts.ensures c.read_place-place.ensures c.fill_round.ensures c.fill_round.auto.round) in
     omega (arith, c.fill_round.auto.round)
 
-pub slice_bounds-pieces-end : goal.slice_bounds-pieces-end
-slice_bounds-pieces-end c =
+pub slice_bounds-round-end : goal.slice_bounds-round-end
+slice_bounds-round-end c =
     sym
     (length-take-le _ _
     (letters-fit
     (copied (outline c.args.start c.args.letters.now) c.args.found c.cut_places-cuts.result c.read_place-place.result c.fill_round.new.round
     c.requires.simple c.requires.found_value c.cut_places-cuts.ensures c.read_place-place.ensures c.fill_round.ensures c.fill_round.auto.round)))
 
-pub pieces-requires : goal.pieces-requires
-pieces-requires c =
+pub judged-requires : goal.judged-requires
+judged-requires c =
     copied-ready
     (copied (outline c.args.start c.args.letters.now) c.args.found c.cut_places-cuts.result c.read_place-place.result c.fill_round.new.round
     c.requires.simple c.requires.found_value c.cut_places-cuts.ensures c.read_place-place.ensures c.fill_round.ensures c.fill_round.auto.round)
+    _
 
 pub returns : goal.returns
 returns c =
     copied-outcome
     (copied (outline c.args.start c.args.letters.now) c.args.found c.cut_places-cuts.result c.read_place-place.result c.fill_round.new.round
     c.requires.simple c.requires.found_value c.cut_places-cuts.ensures c.read_place-place.ensures c.fill_round.ensures c.fill_round.auto.round)
-    c.pieces.ensures
+    c.judged.ensures

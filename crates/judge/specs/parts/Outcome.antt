@@ -1,6 +1,7 @@
 -- The verdict on an outline, and what becomes of the buffer.
-use Rattle.std.specs.Prelude.{ℕ, ◌≤◌, ◌<◌, ◌≡◌, Bool, List, ◌++◌, length, drop, ℤ}
-use Rattle.chart.specs.declared.Verdict.{Verdict}
+use Rattle.std.specs.Prelude.{ℕ, ◌≤◌, ◌<◌, ◌≡◌, Bool, List, ◌++◌, length, drop, ℤ, Result}
+use Rattle.chart.specs.declared.Refusal.{Refusal}
+use Rattle.chart.specs.declared.Taken.{Taken}
 use Rattle.chart.specs.Outline.{Outline}
 use Rattle.lattice.specs.Chart.{size}
 use Rattle.convexity.specs.Clockwise.{border, sent_from}
@@ -14,14 +15,14 @@ pub record Written (es : List ℤ) (n : ℕ) (before after : List ℤ) : Type 0 
   pub no_room : length before < n → after ≡ before
 
 -- The verdict is v, and the edges es are written if it takes the outline and there is room
-pub record Outcome (v : Verdict) (es before after : List ℤ) (r : Verdict) : Type 0 where
+pub record Outcome (v : Result Taken Refusal) (es before after : List ℤ) (r : Result Taken Refusal) : Type 0 where
   pub verdict : r ≡ v
   pub buffer : after ≡ buffer_after (with_room (length before) v) es before
 
 -- For a border o, read forward or backward from the list as sent, where W's letter stands at v in the clockwise form
-abbrev pub OutcomeOfRound : Bool → ℕ → Outline → List ℤ → List ℤ → Verdict → Type 0
+abbrev pub OutcomeOfRound : Bool → ℕ → Outline → List ℤ → List ℤ → Result Taken Refusal → Type 0
 OutcomeOfRound forward v o = Outcome (round_verdict (sent_from forward (size o) v) o) (edges o)
 
 -- For an outline that passes refusals 1 to 6
-abbrev pub OutcomeOfBorder : Outline → List ℤ → List ℤ → Verdict → Type 0
+abbrev pub OutcomeOfBorder : Outline → List ℤ → List ℤ → Result Taken Refusal → Type 0
 OutcomeOfBorder o = Outcome (border_verdict o) (edges (border o))

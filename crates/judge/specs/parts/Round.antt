@@ -1,6 +1,6 @@
 -- What the functions of the judgement know of a border.
 use Rattle.std.specs.Prelude.{ℕ, ◌+◌, ◌≤◌, ◌<◌, ◌≡◌, Bool, true, false, get_or}
-use Rattle.chart.specs.Outline.{Outline}
+use Rattle.chart.specs.Outline.{Outline, outline}
 use Rattle.chart.specs.declared.Refusal.{Refusal}
 use Rattle.chart.specs.declared.Refusal.TheVariants.{Dent}
 use Rattle.lattice.specs.Chart.{corner_at, size}
@@ -15,6 +15,10 @@ use Rattle.judge.specs.declared.Round.{Round}
 pub record FromWest (o : Outline) : Type 0 where
   pub simple : Simple o
   pub west : (i : ℕ) → i < size o → before (frame_of 0) (corner_at o i) o.start ≡ false
+
+-- The border of a round: its letters, from W on
+abbrev pub border_of : Round → Outline
+border_of t = outline t.west t.letters.now
 
 -- t describes the border o: the place of W's letter in the clockwise form, the rows of S and N, and the cut places
 pub record RoundOf (t : Round) (o : Outline) : Type 0 where

@@ -1,5 +1,5 @@
 -- The rows of a layer that have a cell. The search for the rows with a column looks only at these.
-use Rattle.std.specs.Prelude.{ℕ, ◌-◌, ◌≤◌, ◌<◌, ◌≡◌, Bool, false, List, length, ltb}
+use Rattle.std.specs.Prelude.{ℕ, ◌-◌, ◌≤◌, ◌<◌, ◌≡◌, Bool, false, List, ltb}
 use Rattle.base.specs.Below.{first}
 use Rattle.chart.specs.Limits.{side}
 use Rattle.rows.specs.parts.Rows.{rows}
@@ -33,8 +33,3 @@ NoneFrom begins ends c n = (r : ℕ) → n ≤ r → r < side → in_row begins 
 -- No cell is missing from the section's marked ones
 unfoldable pub clear_of : Section → Bool
 clear_of s = clear (numbers s.lo) (numbers s.past)
-
--- An interval for each layer
-pub record Sized (s : Section) : Type 0 where
-  pub lo : length s.lo ≡ layers
-  pub past : length s.past ≡ layers

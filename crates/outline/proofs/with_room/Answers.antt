@@ -1,12 +1,15 @@
 -- A refusal stays, and a taken outline is checked for room: each return cites its law.
-use Rattle.outline.proofs.TestLaws.{room-refused, room-short, room-enough}
+use Rattle.std.proofs.Common.{arith, rules}
+use Rattle.verdict.specs.Verdict.{with_room}
+use Rattle.outline.proofs.TestLaws.{room-short, room-enough}
 use Rattle.outline.proofs.with_room.Goals as goal
 
-pub returns-then-room-edges : goal.returns-then-room-edges
-returns-then-room-edges c = room-short _ c.in-Taken.is c.if-room-edges.true
+pub returns-in_err-taken : goal.returns-in_err-taken
+unfolding with_room
+returns-in_err-taken c = rw c.in_err-taken.was (search rules)
 
-pub returns-in-Refused : goal.returns-in-Refused
-returns-in-Refused c = room-refused _ c.in-Refused.is
+pub returns-then-room-from : goal.returns-then-room-from
+returns-then-room-from c = room-short _ c.in_ok-taken.was (omega (arith, c.from.ensures, c.if-room-from.true))
 
-pub returns-else-room-edges : goal.returns-else-room-edges
-returns-else-room-edges c = room-enough _ c.in-Taken.is c.if-room-edges.false
+pub returns : goal.returns
+returns c = room-enough _ c.in_ok-taken.was (omega (arith, c.from.ensures, c.if-room-from.false))

@@ -7,11 +7,11 @@ use Rattle.pile_calls.proofs.check_step.Goals as goal
 
 pub clear_at-requires : goal.clear_at-requires
 clear_at-requires c =
-    (search rules, search rules, λ h. c.requires (omega (arith, c.tested_at-k.ensures.0)))
+    (search rules, λ h. c.requires (omega (arith, c.tested_at-k.ensures.0)))
 
 pub pass_last-requires : goal.pass_last-requires
 pass_last-requires c =
-    (search rules, omega arith, sym c.clear_at.ensures ∙ c.if-not-clear_at.false)
+    (omega arith, sym c.clear_at.ensures ∙ c.if-not-clear_at.false)
 
 pub returns-then-not-clear_at : goal.returns-then-not-clear_at
 returns-then-not-clear_at c =

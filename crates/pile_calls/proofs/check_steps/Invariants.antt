@@ -1,5 +1,5 @@
 -- What is left to do has the outcome of the whole, and the rows with cells serve as long as columns are left.
-use Prim.Native.Nat.{◌<◌}
+use Prim.Native.Nat.{◌-◌, ◌<◌}
 use mathlib.Core.Path.{◌≡◌}
 use lib.ListN.{get_or}
 use Rattle.chart.specs.Limits.{side}
@@ -9,9 +9,6 @@ use Rattle.pile_calls.specs.Arrays.{arrays}
 use Rattle.pile_calls.specs.Steps.{tested_at, steps_of}
 use Rattle.pile_calls.proofs.check_steps.Given as goal
 
-abbrev pub invariant-loop-left : goal.invariant-loop-left
-invariant-loop-left l = (steps_of l.left (arrays l.rows l.state) ≡ steps_of l.count (arrays l.rows l.initial.state))
+abbrev pub invariant-loop-made : goal.invariant-loop-made
+invariant-loop-made l = (steps_of (l.count - l._made) (arrays l.rows l.state) ≡ steps_of l.count (arrays l.rows l.initial.state))
     × (tested_at (get_or l.state 1 0) < side → l.reach ≡ reach_of (layers_of l.rows))
-
-abbrev pub decreases-loop-left : goal.decreases-loop-left
-decreases-loop-left l = l.left

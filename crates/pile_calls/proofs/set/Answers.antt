@@ -1,4 +1,5 @@
 -- Each return is a case of the definition: 22, a refusal by the verdict, or the outline becomes the layer.
+use Rattle.std.proofs.lemmas.Result.{err_from_is_err_and}
 use Rattle.chart.specs.Outline.{outline}
 use Rattle.pile_calls.specs.Arrays.{arrays}
 use Rattle.pile_calls.proofs.Cases.{set-high, set-refused, set-taken}
@@ -10,15 +11,16 @@ returns-then-layer-gt-LAST_LAYER c =
     c.if-layer-gt-LAST_LAYER.true in
     record { answer = x.0; cell = x.1 }
 
-pub returns-in-Refused : goal.returns-in-Refused
-returns-in-Refused c =
+pub returns-in_err-taken : goal.returns-in_err-taken
+returns-in_err-taken c =
     let x = set-refused (arrays c.args.rows.now c.args.state.now) c.args.layer (outline c.args.start c.args.letters.now)
-    c.if-layer-gt-LAST_LAYER.false c.verdict_of-verdict.ensures c.in-Refused.why c.in-Refused.is in
-    record { answer = x.0; cell = x.1 }
+    c.if-layer-gt-LAST_LAYER.false c.verdict_of.ensures _ c.in_err-taken.was in
+    let p = err_from_is_err_and c.from_residual.result c.from_residual.ensures.1 in
+    rw (p.1, p.2) (record { answer = x.0; cell = x.1 })
 
-pub returns-in-Taken : goal.returns-in-Taken
-returns-in-Taken c =
+pub returns : goal.returns
+returns c =
     let x = set-taken (arrays c.args.rows.now c.args.state.now) c.args.layer (outline c.args.start c.args.letters.now)
-    c.if-layer-gt-LAST_LAYER.false c.verdict_of-verdict.ensures c.in-Taken.edges c.in-Taken.anchor c.in-Taken.is
+    c.if-layer-gt-LAST_LAYER.false c.verdict_of.ensures c.in_ok-taken.taken c.in_ok-taken.was
     c.write_outline.new.rows c.write_outline.ensures c.unpass.new.state c.unpass.ensures.0 in
     record { answer = x.0; cell = x.1 }

@@ -22,35 +22,35 @@ returns-else-same_rows c =
 pub write_ring-ring-requires : goal.write_ring-ring-requires
 unfolding bottom_of top_of
 write_ring-ring-requires c =
-    let rows = spans_from c.args.first.now c.args.past.now in
+    let rows = spans_from c.args.layer.now.first.now c.args.layer.now.past.now in
     let k = between rows (some-row _ c.bottom-low.result c.bottom-low.ensures c.if-low.false) c.bottom-low.result c.top-high.result
     c.bottom-low.ensures c.top-high.ensures in
-    (c.requires.0, c.requires.1, k.0, k.1, search rules)
+    (k.0, k.1, search rules)
 
 -- The letters written round them
-pub returns-then-count-gt-LONGEST : goal.returns-then-count-gt-LONGEST
+pub returns-then-ring-gt-LONGEST : goal.returns-then-ring-gt-LONGEST
 unfolding bottom_of top_of
-returns-then-count-gt-LONGEST c =
-    found-long (spans_from c.args.first.now c.args.past.now)
+returns-then-ring-gt-LONGEST c =
+    found-long (spans_from c.args.layer.now.first.now c.args.layer.now.past.now)
     (some-row _ c.bottom-low.result c.bottom-low.ensures c.if-low.false) _ c.bottom-low.result c.top-high.result
-    c.write_ring-ring.result c.bottom-low.ensures c.top-high.ensures c.write_ring-ring.ensures c.if-count-gt-LONGEST.true
+    c.write_ring-ring.result c.bottom-low.ensures c.top-high.ensures c.write_ring-ring.ensures c.if-ring-gt-LONGEST.true
 
 pub slice_bounds-is_set-end-2 : goal.slice_bounds-is_set-end-2
 slice_bounds-is_set-end-2 c =
-    sym (length-take-le c.write_ring-ring.result.count _ (omega (arith, c.write_ring-ring.ensures.sized, c.if-count-gt-LONGEST.false)))
+    sym (length-take-le c.write_ring-ring.result.count _ (omega (arith, c.write_ring-ring.ensures.sized, c.if-ring-gt-LONGEST.false)))
 
 pub returns-then-is_set : goal.returns-then-is_set
 unfolding bottom_of top_of
 returns-then-is_set c =
-    found-outline (spans_from c.args.first.now c.args.past.now)
+    found-outline (spans_from c.args.layer.now.first.now c.args.layer.now.past.now)
     (some-row _ c.bottom-low.result c.bottom-low.ensures c.if-low.false) _ c.bottom-low.result c.top-high.result
-    c.write_ring-ring.result c.bottom-low.ensures c.top-high.ensures c.write_ring-ring.ensures c.if-count-gt-LONGEST.false
+    c.write_ring-ring.result c.bottom-low.ensures c.top-high.ensures c.write_ring-ring.ensures c.if-ring-gt-LONGEST.false
     (c.is_set.ensures.0 c.if-is_set.true)
 
 pub returns-else-is_set : goal.returns-else-is_set
 unfolding bottom_of top_of
 returns-else-is_set c =
-    found-other (spans_from c.args.first.now c.args.past.now)
+    found-other (spans_from c.args.layer.now.first.now c.args.layer.now.past.now)
     (some-row _ c.bottom-low.result c.bottom-low.ensures c.if-low.false) _ c.bottom-low.result c.top-high.result
     c.write_ring-ring.result c.bottom-low.ensures c.top-high.ensures c.write_ring-ring.ensures
     (λ h. true≢false (sym (c.is_set.ensures.1 h) ∙ c.if-is_set.false))

@@ -1,5 +1,5 @@
 -- The walk along the edges that locates a reading: what its steps promise each other.
-use Rattle.std.specs.Prelude.{◌-◌, ◌^◌, ◌≤◌, ◌≡◌, ◌⊎◌, Bool, true, false, cond, ◌&&◌, ◌||◌, List, length, ℤ, pos, nat_abs, Float}
+use Rattle.std.specs.Prelude.{Option, Some, None, ◌-◌, ◌^◌, ◌≤◌, ◌≡◌, ◌⊎◌, Bool, true, false, cond, ◌&&◌, ◌||◌, List, length, ℤ, pos, nat_abs, Float}
 use Rattle.std.specs.Int.Signed.{le_z}
 use Rattle.std.specs.Float.{binary32}
 use Rattle.rounding.specs.Units.{value, in_units}
@@ -13,8 +13,6 @@ use Rattle.readings.specs.declared.Located.{Located}
 use Rattle.readings.specs.declared.Located.TheVariants.{Inside, Outside, Undecided}
 use Rattle.readings.specs.declared.walk.Met.{Met}
 use Rattle.readings.specs.declared.walk.Walk.{Walk}
-use Rattle.readings.specs.declared.walk.Passed.{Passed}
-use Rattle.readings.specs.declared.walk.Passed.TheVariants.{Out, On}
 use Rattle.readings.specs.Sides.{PlacedEdge}
 use Rattle.readings.specs.Located.{far, near, stays_on}
 
@@ -45,12 +43,12 @@ begun a = record { at = started a; cols = alone (pos a.col); rows = alone (pos a
 unfoldable pub edge_of : Walk → ℤ → ℤ → PlacedEdge
 edge_of w dx dy = record { cols = dx; rows = dy; col = w.at.col; row = w.at.row }
 
--- The walk at the end of that edge. It is out if the reading is far outside the edge
+-- The walk at the end of that edge. There is none if the reading is far outside the edge
 unfoldable pub moved : Walk → ℤ → ℤ → Reading → Walk
 moved w dx dy r = arrived w (stepped w.at dx dy) (near r (edge_of w dx dy))
 
-unfoldable pub passed : Walk → ℤ → ℤ → Reading → Passed
-passed w dx dy r = cond (far r (edge_of w dx dy)) Out (On (moved w dx dy r))
+unfoldable pub passed : Walk → ℤ → ℤ → Reading → Option Walk
+passed w dx dy r = cond (far r (edge_of w dx dy)) None (Some (moved w dx dy r))
 
 -- The numbers met are on the chart, and x lies between them
 unfoldable pub spanned : Met → Float → Bool

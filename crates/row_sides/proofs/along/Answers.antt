@@ -5,12 +5,12 @@ use Rattle.row_sides.proofs.along.Goals as goal
 use Rattle.row_sides.proofs.along.Goals.{else-letter-eq3-via-then-letter-eq3+else-row-gt0, else-letter-eq3-via-else-letter-eq3}
 
 pub returns-then-letter-eq1 : goal.returns-then-letter-eq1
-returns-then-letter-eq1 c = let args = c.args in tells-up args.row args.letter (omega arith) (omega arith)
+returns-then-letter-eq1 c = let args = c.args in rw c.from.ensures (tells-up args.row args.letter (omega arith) (omega arith))
 
 pub returns-then-row-gt0 : goal.returns-then-row-gt0
 returns-then-row-gt0 c =
     let args = c.args in
-    tells-down args.row args.letter (omega arith) (omega arith) (omega arith)
+    rw c.from-then-row-gt0.ensures (tells-down args.row args.letter (omega arith) (omega arith) (omega arith))
 
 pub returns : goal.returns
 returns c =

@@ -8,11 +8,11 @@ pub returns-then-left-right : goal.returns-then-left-right
 returns-then-left-right c =
     let args = c.args in
     let left = c.chain-left in
-    let mirror = c.mirrored-mirror in
+    let mirror = c.mirrored in
     let right = c.chain-right in
     lowest_gap-left
-    (rows args.ends.lo)
-    (rows args.ends.hi)
+    (rows args.ends.now.lo)
+    (rows args.ends.now.hi)
     (rows mirror.result)
     args.b
     args.t
@@ -24,14 +24,14 @@ returns-then-left-right c =
     (omega arith)
 
 pub returns : goal.returns
-returns c = rw c.wide-row.ensures.0 (
+returns c = rw c.from-row.ensures (
     let args = c.args in
     let left = c.chain-left in
-    let mirror = c.mirrored-mirror in
+    let mirror = c.mirrored in
     let right = c.chain-right in
     lowest_gap-right
-    (rows args.ends.lo)
-    (rows args.ends.hi)
+    (rows args.ends.now.lo)
+    (rows args.ends.now.hi)
     (rows mirror.result)
     args.b
     args.t

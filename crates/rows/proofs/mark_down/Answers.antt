@@ -14,9 +14,9 @@ returns-then-row-gt0 c =
     (args.number % 256)
     args.hi.now
     (omega arith)
-    (c.wide-row.result - 1)
+    (c.from-row.result - 1)
     (omega arith)
-    (along-down (corner_numbered args.number) args.letter (c.wide-row.result - 1) (omega arith)
+    (along-down (corner_numbered args.number) args.letter (c.from-row.result - 1) (omega arith)
     (omega arith))
     (λ r e. omega (arith, down-along (corner_numbered args.number) args.letter r e))
 

@@ -70,7 +70,7 @@ loop-j-preserved c =
       omega arith,
       column.0,
       column.1,
-      c.long-k.ensures.0,
+      c.from-k.ensures,
       furthest-on lo args.t args.i iteration.j iteration.k iteration.invariant.5 next (sym test ∙ c.if-not-as_far_left.false),
     )
 

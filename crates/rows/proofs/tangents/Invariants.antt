@@ -5,6 +5,3 @@ use Rattle.rows.proofs.tangents.Given as goal
 
 abbrev pub invariant-loop-i : goal.invariant-loop-i
 invariant-loop-i l = (l.i ≤ l.t) × (length l.next ≡ 256) × (l.above ≡ rows l.next (l.i - 1)) × Tangents (rows l.lo) (rows l.next) (l.i - 1) l.t
-
-abbrev pub decreases-loop-i : goal.decreases-loop-i
-decreases-loop-i l = l.i - l.b - 1

@@ -3,7 +3,7 @@ use native.Mathlib.Omega.{arith}
 use mathlib.Core.Path.{sym, ◌∙◌}
 use Rattle.survey_walk.specs.parts.Walks.{WalkedAs}
 use Rattle.survey_walk.proofs.CheckLaws.{counted-short}
-use Rattle.survey.proofs.SurveyLaws.{walk-leaves, walk-unclosed, walk-passed}
+use Rattle.survey.proofs.SurveyLaws.{walk-leaves, walk-unclosed, walk-closed, walk-passed}
 use Rattle.survey.proofs.marked.Goals as goal
 
 pub overflow_cast-result : goal.overflow_cast-result
@@ -30,5 +30,5 @@ pub returns-else-ends_away : goal.returns-else-ends_away
 unfolding WalkedAs
 returns-else-ends_away c =
     let round = c.in-Round.ensures in
-    walk-passed _ c.requires round.stays round.number (sym c.ends_away.ensures
-    ∙ c.if-ends_away.false) round.meets round.corners
+    let closed = walk-closed _ c.requires round.stays round.number (sym c.ends_away.ensures ∙ c.if-ends_away.false) in
+    walk-passed _ c.requires round.stays closed round.meets round.corners

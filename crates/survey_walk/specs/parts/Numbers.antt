@@ -1,6 +1,6 @@
 -- The corner at a place of a walk as a number of 32 bits, by columns and by rows, and what a letter adds to it, modulo 2^32: 0 right, 1 up,
 -- 2 left, 3 down. The place has the lowest bits, and every letter adds one to it.
-use Rattle.std.specs.Prelude.{ℕ, zero, suc, ◌+◌, ◌-◌, ◌*◌, ◌/◌, ◌%◌, Bool, cond, ◌||◌, nat_lt}
+use Rattle.std.specs.Prelude.{ℕ, zero, suc, ◌+◌, ◌-◌, ◌*◌, ◌/◌, ◌%◌, Bool, ◌||◌, nat_lt}
 use Rattle.chart.specs.Limits.{side}
 use Rattle.chart.specs.declared.Point.{Point}
 use Rattle.survey_walk.specs.declared.Corners.{Corners}
@@ -28,13 +28,6 @@ row_stride zero = 65537
 row_stride (suc zero) = 4278190081
 row_stride (suc (suc zero)) = 4294901761
 row_stride (suc (suc (suc a))) = 16777217
-
--- The lower and the higher of two numbers
-unfoldable pub lower_of : ℕ → ℕ → ℕ
-lower_of best number = cond (nat_lt number best) number best
-
-unfoldable pub higher_of : ℕ → ℕ → ℕ
-higher_of best number = cond (nat_lt best number) number best
 
 -- Read back: the place and the corner of a number by columns, and the row of one by rows, whose place is its remainder by 2^16
 abbrev pub place_of : ℕ → ℕ

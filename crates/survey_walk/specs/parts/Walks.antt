@@ -1,11 +1,10 @@
 -- What one walk along the letters finds of refusals 4, 5 and 6 and of W, N, E and S, if 1, 2 and 3 do not apply.
-use Rattle.std.specs.Prelude.{◌≡◌, ℕ, ◌-◌, ◌<◌, ◌≤◌, false, nat_lt}
+use Rattle.std.specs.Prelude.{◌≡◌, ℕ, ◌-◌, ◌<◌, ◌≤◌, false, nat_lt, Result, Ok, Err}
 use Rattle.base.specs.Below.{first}
 use Rattle.chart.specs.Outline.{Outline}
 use Rattle.lattice.specs.Chart.{leaves, walk, corner_at, size, letter_at}
 use Rattle.lattice.specs.Refusals.{bad_count, bad_start, letter_place, leaving_place, Stays, touching_place}
 use Rattle.survey_walk.specs.declared.Corners.{Corners}
-use Rattle.survey_walk.specs.declared.Rest.{Rest}
 use Rattle.survey_walk.specs.declared.Walk.{Walk}
 use Rattle.survey_walk.specs.declared.Walk.TheVariants.{Leaves, Meets, Round}
 use Rattle.survey_walk.specs.parts.Numbers.{col_number}
@@ -23,10 +22,10 @@ pub record Out (o : Outline) (i n : ℕ) : Type 0 where
   pub none_leaves : first (λ j. leaves (corner_at o j) (letter_at o j)) i ≡ i
   pub number : n ≡ col_number (corner_at o i) i
 
--- A walk to its end: the first letter that leaves the chart, and the number of the last corner if none does
-pub record RestOf (o : Outline) (r : Rest) : Type 0 where
-  pub place : r.leaves ≡ leaving_place o
-  pub number : Stays o → r.end ≡ col_number (walk o.start o.letters) (size o)
+-- A walk to its end: the first letter that leaves the chart, or the number of the last corner if none does
+unfoldable pub RestOf : Outline → Result ℕ ℕ → Type 0
+RestOf o (Err i) = (i < size o) × (i ≡ leaving_place o)
+RestOf o (Ok n) = Stays o × (n ≡ col_number (walk o.start o.letters) (size o))
 
 -- The corner at place i is the first that was met before, and no letter up to there leaves the chart
 pub record MetAt (o : Outline) (i n : ℕ) : Type 0 where

@@ -1,5 +1,5 @@
 -- What the searches of src/ return, in terms of the list of a word's factors.
-use Rattle.std.specs.Prelude.{ℕ, Bool, true, false, List, [], ◌∷◌, length, eqb}
+use Rattle.std.specs.Prelude.{ℕ, Bool, true, false, List, [], ◌∷◌, length, eqb, Option, Some, None}
 use Rattle.words.specs.declared.Found.{Found}
 use Rattle.words.specs.declared.JudgedFactor.{JudgedFactor}
 use Rattle.words.specs.Word.{laters}
@@ -14,16 +14,16 @@ rank false = 0
 abbrev pub rank_of : ℕ → ℕ → ℕ
 rank_of letter later = rank (eqb letter later)
 
--- The first factor: the length of one copy, the repeats, and the later letters of one copy. All are 0 if there is no factor
-unfoldable pub first_of : List Factor → Found
-first_of [] = record { length = 0; times = 0; laters = 0 }
-first_of (f ∷ fs) = record { length = length f.word; times = f.times; laters = laters f.word }
+-- The first factor, if there is one: the length of one copy, the repeats, and the later letters of one copy
+unfoldable pub first_of : List Factor → Option Found
+first_of [] = None
+first_of (f ∷ fs) = Some (record { length = length f.word; times = f.times; laters = laters f.word })
 
 -- One factor in the same form, and whether a copy is a Christoffel word
 abbrev pub judge : Factor → JudgedFactor
 judge f = record { length = length f.word; times = f.times; laters = laters f.word; christoffel = christoffel f.word }
 
--- The first factor in that form; 0, 0, 0 and false if there is none
-unfoldable pub judged : List Factor → JudgedFactor
-judged [] = record { length = 0; times = 0; laters = 0; christoffel = false }
-judged (f ∷ fs) = judge f
+-- The first factor in that form, if there is one
+unfoldable pub judged : List Factor → Option JudgedFactor
+judged [] = None
+judged (f ∷ fs) = Some (judge f)

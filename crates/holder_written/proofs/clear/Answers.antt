@@ -1,0 +1,6 @@
+-- The reply's fields are written.
+use Rattle.holder_written.proofs.Written.{done-by}
+use Rattle.holder_written.proofs.clear.Goals as goal
+
+pub returns : goal.returns
+returns c = λ l r n. done-by _ _ _ _ (c.clear.ensures l r n) _ c.put_word.ensures
