@@ -5,8 +5,10 @@ use native.Mathlib.Omega.{arith}
 use mathlib.Core.Path.{◌≡◌, refl, sym, ap, ◌∙◌}
 use mathlib.Core.Bool.{Bool}
 use mathlib.Core.List.{List, [], ◌∷◌, ◌++◌, append_assoc, append-nil}
-use lib.ListN.{length, take, set, length-set, length-append}
-use lib.Seq.{take-suc-set}
+use lib.ListN.{length, take, drop, set, length-set, length-append, length-drop}
+use lib.Seq.{take-suc-set, length-take-le}
+use borrow.Rule.Slice.PartMut.{put_mid, same_len_mid}
+use Rattle.std.proofs.lemmas.Slice.{take-put_mid}
 use Rattle.words.specs.Counted.{listed, counted_letter}
 use Rattle.words.proofs.Counted.{length-listed}
 use Rattle.convexity.specs.Frame.{frame_of}
@@ -47,6 +49,16 @@ wrote-both {before} {middle} {after} {u} {v} {at} h i e k =
           (k.written ∙ ap (λ (l : List ℕ). l ++ v) (ap (λ (j : ℕ). take j middle) e ∙ h.written) ∙ append_assoc (take at before) u v);
     }
 
+-- Letters put in the place of as many
+pub wrote-put :
+    {before w put : List ℕ} {at k : ℕ} → put ≡ w → k ≡ length w → at + length w ≤ length before → Wrote before at w (put_mid at k before put)
+wrote-put {before} {w} {put} {at} {k} e d h =
+    rw (e, d)
+    (record {
+      sized = same_len_mid at (length w) before w (omega (arith, length-take-le (length w) (drop at before), length-drop at before));
+      written = take-put_mid at (length w) before w (at + length w) refl (omega arith);
+    })
+
 -- ---- the first letters of pieces
 
 pub length-firsts : (k n : ℕ) → length (firsts k n) ≡ n
@@ -73,28 +85,26 @@ pub spelled-next : (k : ℕ) (f : ℕ → Bool) (i : ℕ)
     → spell (frame_of k) (listed f (suc i)) ≡ spell (frame_of k) (listed f i) ++ spell (frame_of k) (f i ∷ [])
 spelled-next k f i = ap (spell (frame_of k)) (listed_next f i) ∙ spell-append (frame_of k) (listed f i) (f i ∷ [])
 
-module _ (k run rise i : ℕ) (rises : 0 < rise) {before after : List ℕ} (at : ℕ)
-    (h : Wrote before at (spell (frame_of k) (listed (counted_letter rise (run + rise)) i)) after) (fits : at + i < length before) where
+-- A list whose first i letters are those of the edge
+module _ (k run rise i : ℕ) (rises : 0 < rise) (list : List ℕ)
+    (h : take i list ≡ spell (frame_of k) (listed (counted_letter rise (run + rise)) i)) (fits : i < length list) where
   abbrev Longer : ℕ → Type 0
-  Longer a = Wrote before at (spell (frame_of k) (listed (counted_letter rise (run + rise)) (suc i))) (set after (at + i) a)
-
-  behind : at + i ≡ at + length (spell (frame_of k) (listed (counted_letter rise (run + rise)) i))
-  behind =
-      ap (λ (m : ℕ). at + m)
-      (sym (length-spell (frame_of k) (listed (counted_letter rise (run + rise)) i) ∙ length-listed (counted_letter rise (run + rise)) i))
+  Longer a = take (suc i) (set list i a) ≡ spell (frame_of k) (listed (counted_letter rise (run + rise)) (suc i))
 
   pub earlier-next : i * rise % (run + rise) < run → Longer (frame_of k).earlier
   unfolding spell
   earlier-next l =
-      rw (
+      take-suc-set list i (frame_of k).earlier fits
+      ∙ rw (
         spelled-next k (counted_letter rise (run + rise)) i,
         letter-below i run rise rises l,
-      ) (wrote-next h (at + i) (frame_of k).earlier behind fits)
+      ) (ap (λ (w : List ℕ). w ++ ((frame_of k).earlier ∷ [])) h)
 
   pub later-next : run ≤ i * rise % (run + rise) → Longer (frame_of k).later
   unfolding spell
   later-next l =
-      rw (
+      take-suc-set list i (frame_of k).later fits
+      ∙ rw (
         spelled-next k (counted_letter rise (run + rise)) i,
         letter-above i run rise rises l,
-      ) (wrote-next h (at + i) (frame_of k).later behind fits)
+      ) (ap (λ (w : List ℕ). w ++ ((frame_of k).later ∷ [])) h)

@@ -26,9 +26,8 @@ fn write_edge(letters: &mut [u8], at: usize, k: usize, run: usize, rise: usize) 
     let pair = pair_at(k);
     let end = run + rise;
     let mut rem = 0;
-    for i in 0..end {
-        let letter = if rem < run { pair.earlier } else { pair.later };
-        letters[at + i] = letter;
+    for letter in letters[at..at + end].iter_mut() {
+        *letter = if rem < run { pair.earlier } else { pair.later };
         rem = next(rem, run, rise);
     }
     at + end

@@ -20,21 +20,20 @@ module _ (lo : ℕ → ℕ) where
       let a = across (lo y) (lo (suc y)) in
       rw e (ap (λ (w : List ℕ). 1 ∷ w) (ap (λ (w : List ℕ). a ++ w) (rise-next (suc y) n) ∙ sym (append_assoc a (to_row lo (suc y) n) _)))
 
-  pub rise-more : (y i : ℕ) → y ≤ i → to_row lo y (i + 1 - y) ≡ (to_row lo y (i - y) ++ (1 ∷ [])) ++ across (lo i) (lo (i + 1))
-  rise-more y i h =
-      let d : i + 1 - y ≡ suc (i - y) = omega arith in
-      let e : y + (i - y) ≡ i = omega arith in
-      let f : suc i ≡ i + 1 = omega arith in
-      ap (to_row lo y) d ∙ rise-next y (i - y) ∙ rw (e, f) (sym (append_assoc (to_row lo y (i - y)) (1 ∷ []) (across (lo i) (lo (i + 1)))))
+  pub rise-more : (y n : ℕ) → to_row lo y (n + 1) ≡ (to_row lo y n ++ (1 ∷ [])) ++ across (lo (y + n)) (lo (y + n + 1))
+  rise-more y n =
+      let d : n + 1 ≡ suc n = omega arith in
+      let f : suc (y + n) ≡ y + n + 1 = omega arith in
+      ap (to_row lo y) d ∙ rise-next y n ∙ rw f (sym (append_assoc (to_row lo y n) (1 ∷ []) (across (lo (y + n)) (lo (y + n + 1)))))
 
-  pub rise-length : (y i : ℕ) → y ≤ i
-      → length (to_row lo y (i + 1 - y)) ≡ length (to_row lo y (i - y)) + suc (length (across (lo i) (lo (i + 1))))
-  rise-length y i h =
-      let w = to_row lo y (i - y) in
+  pub rise-length : (y n : ℕ)
+      → length (to_row lo y (n + 1)) ≡ length (to_row lo y n) + suc (length (across (lo (y + n)) (lo (y + n + 1))))
+  rise-length y n =
+      let w = to_row lo y n in
       omega (
         arith,
-        ap length (rise-more y i h),
-        length-append (w ++ (1 ∷ [])) (across (lo i) (lo (i + 1))),
+        ap length (rise-more y n),
+        length-append (w ++ (1 ∷ [])) (across (lo (y + n)) (lo (y + n + 1))),
         length-append w (1 ∷ []),
       )
 
@@ -45,11 +44,11 @@ module _ (lo : ℕ → ℕ) where
       let z : List ℕ = 1 ∷ across (lo (y + (n + d))) (lo (suc (y + (n + d)))) in
       rw e (omega (arith, ap length (rise-next y (n + d)), length-append (to_row lo y (n + d)) z, rise-longer y n d))
 
-  pub rise-fits : (y i e : ℕ) → y ≤ i → i < e
-      → length (to_row lo y (i - y)) + suc (length (across (lo i) (lo (i + 1)))) ≤ length (to_row lo y (e - y))
-  rise-fits y i e h l =
-      let d : e - y ≡ (i + 1 - y) + (e - (i + 1)) = omega arith in
-      rw d (omega (arith, rise-longer y (i + 1 - y) (e - (i + 1)), rise-length y i h))
+  pub rise-fits : (y n m : ℕ) → n < m
+      → length (to_row lo y n) + suc (length (across (lo (y + n)) (lo (y + n + 1)))) ≤ length (to_row lo y m)
+  rise-fits y n m l =
+      let d : m ≡ (n + 1) + (m - (n + 1)) = omega arith in
+      omega (arith, ap (λ (j : ℕ). length (to_row lo y j)) d, rise-longer y (n + 1) (m - (n + 1)), rise-length y n)
 
   pub rise-ascent : (y k : ℕ) → ascent lo y k ≡ to_row lo y k ++ (1 ∷ [])
   unfolding ascent to_row
@@ -61,19 +60,19 @@ module _ (lo : ℕ → ℕ) where
 -- ---- down
 
 module _ (hi : ℕ → ℕ) where
-  pub fall-first : (e : ℕ) → descent hi e (e - e) ≡ 3 ∷ []
+  pub fall-first : (e : ℕ) → descent hi e 0 ≡ 3 ∷ []
   unfolding descent
-  fall-first e = let d : e - e ≡ 0 = omega arith in rw d refl
+  fall-first e = refl
 
-  pub fall-more : (i e : ℕ) → 0 < i → i ≤ e
-      → descent hi (i - 1) (e - (i - 1)) ≡ (descent hi i (e - i) ++ across (hi i) (hi (i - 1))) ++ (3 ∷ [])
+  pub fall-more : (i n : ℕ) → 0 < i
+      → descent hi (i - 1) (n + 1) ≡ (descent hi i n ++ across (hi i) (hi (i - 1))) ++ (3 ∷ [])
   unfolding descent
-  fall-more i e h l =
-      let d : e - (i - 1) ≡ suc (e - i) = omega arith in
+  fall-more i n h =
+      let d : n + 1 ≡ suc n = omega arith in
       let f : suc (i - 1) ≡ i = omega arith in
       ap (descent hi (i - 1)) d
-      ∙ ap (λ (j : ℕ). descent hi j (e - i) ++ (across (hi j) (hi (i - 1)) ++ (3 ∷ []))) f
-      ∙ sym (append_assoc (descent hi i (e - i)) (across (hi i) (hi (i - 1))) (3 ∷ []))
+      ∙ ap (λ (j : ℕ). descent hi j n ++ (across (hi j) (hi (i - 1)) ++ (3 ∷ []))) f
+      ∙ sym (append_assoc (descent hi i n) (across (hi i) (hi (i - 1))) (3 ∷ []))
 
   fall-longer : (y k d : ℕ) → length (descent hi (y + d) k) ≤ length (descent hi y (d + k))
   unfolding descent
@@ -90,19 +89,19 @@ module _ (hi : ℕ → ℕ) where
         length-append (descent hi (suc y) (d + k)) (across (hi (suc y)) (hi y) ++ (3 ∷ [])),
       ))
 
-  pub fall-fits : (y i e : ℕ) → y < i → i ≤ e
-      → length (descent hi i (e - i)) + suc (length (across (hi i) (hi (i - 1)))) ≤ length (descent hi y (e - y))
-  fall-fits y i e h l =
-      let d : e - y ≡ (i - 1 - y) + (e - (i - 1)) = omega arith in
+  pub fall-fits : (y i n e : ℕ) → y < i → i + n ≡ e
+      → length (descent hi i n) + suc (length (across (hi i) (hi (i - 1)))) ≤ length (descent hi y (e - y))
+  fall-fits y i n e h l =
+      let d : e - y ≡ (i - 1 - y) + (n + 1) = omega arith in
       let f : y + (i - 1 - y) ≡ i - 1 = omega arith in
-      let w = descent hi i (e - i) in
+      let w = descent hi i n in
       let a = across (hi i) (hi (i - 1)) in
       rw d
       (omega (
         arith,
-        fall-longer y (e - (i - 1)) (i - 1 - y),
-        ap (λ (j : ℕ). length (descent hi j (e - (i - 1)))) f,
-        ap length (fall-more i e (omega arith) l),
+        fall-longer y (n + 1) (i - 1 - y),
+        ap (λ (j : ℕ). length (descent hi j (n + 1))) f,
+        ap length (fall-more i n (omega arith)),
         length-append (w ++ a) (3 ∷ []),
         length-append w a,
       ))

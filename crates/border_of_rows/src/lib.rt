@@ -12,7 +12,7 @@ use chart::CORNERS;
 
 // A side of the block is a list of all rows' ends, and `y` to `e` are the rows to go along, the lower first, as in a range: a struct of the
 // three would be made anew for each of the six calls, and is no plainer. Each side is found, counted and gone along without the other, so
-// the two are two lists. A loop counts rows, as it reads each together with the row above it.
+// the two are two lists. A loop goes over the pairs of neighbours: a row's end and the end of the row above it.
 
 // How many letters lead from column `a` to column `b`.
 fn apart(a: u16, b: u16) -> usize
@@ -27,8 +27,8 @@ fn steps(ends: &[u16; CORNERS], y: usize, e: usize) -> usize
     ensures { (result ≡ length (to_row (rows ends.now) y (e - y))) × (result ≤ 65536 * (e - y)) }
 {
     let mut n = 0;
-    for i in y..e {
-        n += 1 + apart(ends[i], ends[i + 1]);
+    for &[below, above] in ends[y..=e].array_windows::<2>() {
+        n += 1 + apart(below, above);
     }
     n
 }
@@ -63,9 +63,9 @@ fn rise(lo: &[u16; CORNERS], y: usize, e: usize, out: &mut [u8], at: usize) -> u
         × Wrote out.old at (to_row (rows lo.now) y (e - y)) out.new }
 {
     let mut k = at;
-    for i in y..e {
+    for &[below, above] in lo[y..=e].array_windows::<2>() {
         out[k] = 1;
-        k = across(out, k + 1, lo[i], lo[i + 1]);
+        k = across(out, k + 1, below, above);
     }
     k
 }
@@ -78,8 +78,8 @@ fn fall(hi: &[u16; CORNERS], y: usize, e: usize, out: &mut [u8], at: usize) -> u
 {
     out[at] = 3;
     let mut k = at + 1;
-    for i in (y..e).rev() {
-        k = across(out, k, hi[i + 1], hi[i]);
+    for &[below, above] in hi[y..=e].array_windows::<2>().rev() {
+        k = across(out, k, above, below);
         out[k] = 3;
         k += 1;
     }

@@ -1,7 +1,7 @@
-// Replies in seven fields: number, word and the rest (contract 4). Fields come from an option and from a result here, and no `From` may
+// Replies in seven fields: number, word and the rest (contract 4). Fields come from an option and from a result here too, and no `From` may
 // stand for those: both types are other crates'.
-ghost use Rattle.std.specs.Prelude.{◌≡◌};
-ghost use Rattle.chart.specs.Fields.{numbers_of};
+ghost use Rattle.std.specs.Prelude.{◌≡◌, Ok};
+ghost use Rattle.chart.specs.Fields.{numbers_of, refusal_fields};
 ghost use Rattle.calls.specs.Replies.{piece_in, piece_fields, reply_fields};
 
 use crate::{Answer, Piece};
@@ -33,48 +33,90 @@ fn of_piece(piece: Option<Piece>, cell: Point) -> Fields
     }
 }
 
+// An answer in seven numbers.
+impl From<Answer> for Fields {
+    ghost from_gives = { λ answer fields. fields ≡ reply_fields (Ok answer) };
+
+    #[tactic(auto, unfolding(crate::specs::Replies::reply_fields))]
+    fn from(answer: Answer) -> Fields {
+        match answer {
+            Answer::Done => reply::worded(reply::NO_WORD),
+            Answer::Inside => reply::worded(reply::INSIDE),
+            Answer::Outside => reply::worded(reply::OUTSIDE),
+            Answer::Undecided => reply::worded(reply::UNDECIDED),
+            Answer::Columns { first, last } => reply::accepted(
+                reply::COLUMNS,
+                0,
+                Point {
+                    col: first,
+                    row: last,
+                },
+            ),
+            Answer::None => reply::worded(reply::NONE),
+            Answer::Drawn { piece, cell } => of_piece(piece, cell),
+            Answer::Taken { edges, anchor } => reply::accepted(reply::TAKEN, edges, anchor),
+            Answer::Same { edges, anchor } => reply::accepted(reply::SAME, edges, anchor),
+        }
+    }
+}
+
+// An answer or a refusal in seven numbers.
 #[tactic(auto, unfolding(crate::specs::Replies::reply_fields))]
 pub fn of_reply(r: Result<Answer, Refusal>) -> Fields
     ensures { result ≡ reply_fields r }
 {
     match r {
-        Ok(Answer::Done) => reply::worded(reply::NO_WORD),
-        Ok(Answer::Inside) => reply::worded(reply::INSIDE),
-        Ok(Answer::Outside) => reply::worded(reply::OUTSIDE),
-        Ok(Answer::Undecided) => reply::worded(reply::UNDECIDED),
-        Ok(Answer::Columns { first, last }) => reply::accepted(
-            reply::COLUMNS,
-            0,
-            Point {
-                col: first,
-                row: last,
-            },
-        ),
-        Ok(Answer::None) => reply::worded(reply::NONE),
-        Ok(Answer::Drawn { piece, cell }) => of_piece(piece, cell),
-        Ok(Answer::Taken { edges, anchor }) => reply::accepted(reply::TAKEN, edges, anchor),
-        Ok(Answer::Same { edges, anchor }) => reply::accepted(reply::SAME, edges, anchor),
+        Ok(answer) => Fields::from(answer),
         Err(why) => Fields::from(why),
     }
 }
 
+// Writes an answer. This and the next are no part of their callers, so that those write their commonest answers where they are found.
+#[inline(never)]
+fn put_answer(answer: Answer, numbers: &mut [u16; NUMBERS])
+    ensures { numbers.new ≡ numbers_of (reply_fields (Ok answer)) }
+{
+    reply::put(Fields::from(answer), numbers);
+}
+
+// Writes a refusal.
+#[inline(never)]
+fn put_refusal(why: Refusal, numbers: &mut [u16; NUMBERS])
+    ensures { numbers.new ≡ numbers_of (refusal_fields why) }
+{
+    reply::put(Fields::from(why), numbers);
+}
+
 // Writes any reply.
+#[tactic(auto, unfolding(crate::specs::Replies::reply_fields))]
 pub fn put(r: Result<Answer, Refusal>, numbers: &mut [u16; NUMBERS])
     ensures { numbers.new ≡ numbers_of (reply_fields r) }
 {
-    reply::put(of_reply(r), numbers);
+    match r {
+        Ok(answer) => put_answer(answer, numbers),
+        Err(why) => put_refusal(why, numbers),
+    }
 }
 
-// Writes a reply whose commonest answers have no fields. Those are few, so that a compiler writes them where they are found.
+// Writes a reply whose commonest answers are a word alone.
 #[tactic(auto, unfolding(crate::specs::Replies::reply_fields))]
 pub fn put_word(r: Result<Answer, Refusal>, numbers: &mut [u16; NUMBERS])
     ensures { numbers.new ≡ numbers_of (reply_fields r) }
 {
     match r {
-        Ok(Answer::Done) => reply::put(reply::worded(reply::NO_WORD), numbers),
-        Ok(Answer::Inside) => reply::put(reply::worded(reply::INSIDE), numbers),
-        Ok(Answer::Outside) => reply::put(reply::worded(reply::OUTSIDE), numbers),
-        _ => put(r, numbers),
+        Ok(answer) => {
+            let word = match answer {
+                Answer::Done => reply::NO_WORD,
+                Answer::Inside => reply::INSIDE,
+                Answer::Outside => reply::OUTSIDE,
+                _ => {
+                    put_answer(answer, numbers);
+                    return;
+                }
+            };
+            reply::put(reply::worded(word), numbers);
+        }
+        Err(why) => put_refusal(why, numbers),
     }
 }
 
@@ -92,6 +134,7 @@ pub fn put_columns(r: Result<Answer, Refusal>, numbers: &mut [u16; NUMBERS])
             reply::put(reply::accepted(reply::COLUMNS, 0, ends), numbers)
         }
         Ok(Answer::None) => reply::put(reply::worded(reply::NONE), numbers),
-        _ => put(r, numbers),
+        Ok(answer) => put_answer(answer, numbers),
+        Err(why) => put_refusal(why, numbers),
     }
 }

@@ -13,10 +13,12 @@ use Rattle.text_lines.proofs.WrittenLaws.{length-written, written_behind, writte
 use Rattle.text_lines.proofs.TextLaws.{line-short}
 use Rattle.chart.specs.Outline.{Outline, outline}
 use Rattle.std.specs.Prelude.{None, Ok, Err}
+use Rattle.fitting_records.specs.declared.Fault.{Fault}
 use Rattle.fitting_records.specs.declared.Fault.TheVariants.{WrongMark, Truncated}
 use Rattle.fitting_records.specs.Found.{header, found_at}
 use Rattle.fitting_records.proofs.RecordLaws.{Passed}
 use Rattle.fitting_listing.specs.Faults as faults
+use Rattle.fitting_listing.specs.Faults.{fault_number}
 use Rattle.fitting_listing.specs.Lines.{most, line, tested_line, outline_in, lines_at}
 use Rattle.fitting_listing.specs.Listed.{room, Small, Listed}
 use Rattle.fitting_listing.proofs.LinesLaws.{lines-found-end, lines-wrong-mark, lines_cut, lines-record}
@@ -78,14 +80,21 @@ module _ {file buffer text : List ℕ} {at n end : ℕ} (g : Going file buffer t
   fault-short : (a : ℕ) → a < 100000 → length (line_text (line n a at)) ≤ 18
   fault-short a h = line-short (line n a at) (omega (arith, g.within, g.records)) h (omega (arith, g.within))
 
-  pub going-wrong-mark : {text' : List ℕ} {r : ℕ} → found_at file at ≡ Err WrongMark
+  going-wrong-mark : {text' : List ℕ} {r : ℕ} → found_at file at ≡ Err WrongMark
       → Wrote (line_text (line n faults.wrong_mark at)) end text text' r
       → Listed (lines_at 0 0 file) buffer text' r
   going-wrong-mark e = going-last (lines-wrong-mark n at (drop at file) e) (fault-short faults.wrong_mark (lit< tt))
 
-  pub going-cut : {text' : List ℕ} {r : ℕ} → found_at file at ≡ Err Truncated → Wrote (line_text (line n faults.truncated at)) end text text' r
+  going-cut : {text' : List ℕ} {r : ℕ} → found_at file at ≡ Err Truncated → Wrote (line_text (line n faults.truncated at)) end text text' r
       → Listed (lines_at 0 0 file) buffer text' r
   going-cut e = going-last (lines_cut n at (drop at file) e) (fault-short faults.truncated (lit< tt))
+
+  pub going-fault : (f : Fault) → {text' : List ℕ} {r : ℕ} → found_at file at ≡ Err f
+      → Wrote (line_text (line n (fault_number f) at)) end text text' r
+      → Listed (lines_at 0 0 file) buffer text' r
+  unfolding fault_number
+  going-fault WrongMark e w = going-wrong-mark e w
+  going-fault Truncated e w = going-cut e w
 
   record-short : {l : Line} (o : Outline) → l ≡ tested_line n o → Small l → length (line_text l) ≤ 18
   unfolding tested_line

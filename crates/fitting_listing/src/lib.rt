@@ -3,6 +3,7 @@
 
 ghost use Rattle.std.specs.Prelude.{◌≤◌, ◌≡◌, length};
 ghost use Rattle.chart.specs.Outline.{outline};
+ghost use Rattle.fitting_listing.specs.Faults.{fault_number};
 ghost use Rattle.fitting_listing.specs.Lines.{most, line as line_of, tested_line, lines_at, lines_of};
 ghost use Rattle.fitting_listing.specs.Listed.{Small, Listed};
 
@@ -16,12 +17,19 @@ pub const MOST: usize = 65536;
 // A buffer of this many bytes has room for the listing of any file.
 pub const ROOM: usize = 196614;
 
-// The faults of a file (contract 11.3).
-const WRONG_MARK: usize = 23;
-
-const TRUNCATED: usize = 24;
-
+// The fault of a file that is too long (contract 11.3).
 const TOO_LONG: usize = 25;
+
+// The number of a fault at a position of a file (contract 11.3).
+#[tactic(auto, unfolding(crate::specs::Faults::fault_number))]
+fn fault_number(why: Fault) -> usize
+    ensures { result ≡ fault_number why }
+{
+    match why {
+        Fault::WrongMark => 23,
+        Fault::Truncated => 24,
+    }
+}
 
 // The line of a fault: the record's number, the fault's number, and a position.
 fn fault(number: usize, answer: usize, place: usize) -> Line
@@ -65,8 +73,7 @@ fn list_records(file: &[u8], text: &mut [u8]) -> usize
         let step = next_at(file, at);
         match step.found {
             Ok(None) => return end,
-            Err(Fault::WrongMark) => return put_line(fault(number, WRONG_MARK, at), text, end),
-            Err(Fault::Truncated) => return put_line(fault(number, TRUNCATED, at), text, end),
+            Err(why) => return put_line(fault(number, fault_number(why), at), text, end),
             Ok(Some(record)) => {
                 let next = step.next;
                 let line = tested(number, record.col, record.row, &file[letters..next]);

@@ -6,13 +6,13 @@
 // The two arrays stay parameters of their own: the C interface names them one by one, and some calls take the rows only to read.
 #![tactic(auto)]
 
-ghost use Rattle.std.specs.Prelude.{◌≡◌, true, List, [], ◌∷◌, ℕ, ◌≤◌, ◌<◌, get_or};
+ghost use Rattle.std.specs.Prelude.{◌≡◌, true, List, [], ◌∷◌, ℕ, ◌≤◌, ◌<◌, get_or, MatchResult};
 ghost use Rattle.chart.specs.Limits.{side};
 ghost use Rattle.chart.specs.Outline.{outline};
 ghost use Rattle.verdict.specs.Named.{CellNamed};
 ghost use Rattle.spans.specs.Spans.{no_spans, spans_of};
 ghost use Rattle.span_list.specs.SpanList.{rows_put};
-ghost use Rattle.sections.specs.Sections.{layers};
+ghost use Rattle.sections.specs.Sections.{layers, last_layer};
 ghost use Rattle.pile_sections.specs.Sections.{dented_column, dented_row};
 ghost use Rattle.pile_sections.specs.Meaning.{CheckedRuns};
 ghost use Rattle.pile_replies.specs.Replies.{pile_fields};
@@ -153,6 +153,17 @@ fn write_none(rows: &mut [u8; ROW_BYTES], state: &[u16; STATE_NUMBERS], layer: u
 
 // ---- the calls
 
+// The index of a layer, or 22.
+pub fn layer_index(layer: u8) -> Result<usize, Refusal>
+    ensures { MatchResult result (λ l. (l ≡ layer) × (layer ≤ last_layer))
+        (λ why. (why ≡ Refusal.Layer) × (last_layer < layer)) }
+{
+    if LAST_LAYER < layer {
+        return Err(Refusal::Layer);
+    }
+    Ok(usize::from(layer))
+}
+
 // Makes the arrays a fresh pile, whatever they held.
 pub fn clear_all(rows: &mut [u8; ROW_BYTES], state: &mut [u16; STATE_NUMBERS])
     ensures { arrays rows.new state.new ≡ fresh_pile }
@@ -173,12 +184,10 @@ pub fn set(
         ≡ answer_of (arrays rows.old state.old) (Set layer (outline start letters.now)) }
     ensures cell { CellNamed (outline start letters.now) (pile_fields result) }
 {
-    if LAST_LAYER < layer {
-        return Err(Refusal::Layer);
-    }
+    let layer = layer_index(layer)?;
     let taken = verdict_of(start, letters)?;
     unpass(state);
-    write_outline(rows, state, layer as usize, start, letters);
+    write_outline(rows, state, layer, start, letters);
     Ok(PileAnswer::Taken(taken))
 }
 
@@ -192,11 +201,9 @@ pub fn set_empty(
     ensures { says result (arrays rows.new state.new)
         ≡ answer_of (arrays rows.old state.old) (SetEmpty layer) }
 {
-    if LAST_LAYER < layer {
-        return Err(Refusal::Layer);
-    }
+    let layer = layer_index(layer)?;
     unpass(state);
-    write_none(rows, state, layer as usize);
+    write_none(rows, state, layer);
     Ok(PileAnswer::Done)
 }
 
@@ -333,16 +340,14 @@ pub fn query<'a>(
 ) -> Result<PileAnswer, Refusal>
     ensures { result ≡ query_of (arrays rows.now state.now) layer cell }
 {
-    if LAST_LAYER < layer {
-        return Err(Refusal::Layer);
-    }
+    let layer = layer_index(layer)?;
     if state[WORD] != PASSED {
         return Err(Refusal::NothingAtWork);
     }
     if bad_cell(cell) {
         return Err(Refusal::Cell);
     }
-    if within(&rows[..], layer as usize, cell) {
+    if within(&rows[..], layer, cell) {
         Ok(PileAnswer::Inside)
     } else {
         Ok(PileAnswer::Outside)
@@ -367,18 +372,14 @@ impl Pile {
         ensures answer { result ≡ answer_of self (Set layer (outline start letters.now)) }
         ensures cell { CellNamed (outline start letters.now) (pile_fields result.reply) }
     {
-        let mut state = self.state;
-        let reply = set(&mut self.rows, &mut state, layer, start, letters);
-        self.state = state;
+        let reply = set(&mut self.rows, &mut self.state, layer, start, letters);
         Piled { reply, pile: self }
     }
 
     pub fn set_empty(mut self, layer: u8) -> Piled
         ensures { result ≡ answer_of self (SetEmpty layer) }
     {
-        let mut state = self.state;
-        let reply = set_empty(&mut self.rows, &mut state, layer);
-        self.state = state;
+        let reply = set_empty(&mut self.rows, &mut self.state, layer);
         Piled { reply, pile: self }
     }
 
@@ -386,18 +387,14 @@ impl Pile {
         ensures answer { result ≡ answer_of self Check }
         ensures meaning { CheckedRuns (layers_of self.rows) result.reply }
     {
-        let mut state = self.state;
-        let reply = check(&self.rows, &mut state);
-        self.state = state;
+        let reply = check(&self.rows, &mut self.state);
         Piled { reply, pile: self }
     }
 
     pub fn check_steps(mut self, count: u16) -> Stepped
         ensures { result ≡ steps_of count self }
     {
-        let mut state = self.state;
-        let progress = check_steps(&self.rows, &mut state, count);
-        self.state = state;
+        let progress = check_steps(&self.rows, &mut self.state, count);
         Stepped {
             progress,
             pile: self,

@@ -22,9 +22,8 @@ use hull_rows::lowest;
 use images::{HEADER, IMAGE};
 use judge::verdict_of;
 use live_sections::Layer;
-use pile_calls::{ROW_BYTES, STATE_NUMBERS, set, set_empty};
+use pile_calls::{ROW_BYTES, STATE_NUMBERS, layer_index, set, set_empty};
 use pile_replies::PileAnswer;
-use sections::LAST_LAYER;
 use spans::{Spans, no_spans, spans_of};
 
 // One past the last row.
@@ -134,11 +133,9 @@ fn write_image(start: Point, letters: &[u8], image: &mut [u8]) -> Result<PileAns
 pub fn save(rows: &[u8; ROW_BYTES], layer: u8, image: &mut [u8]) -> Result<PileAnswer, Refusal>
     ensures { SavesAt rows.now layer image.old image.new result }
 {
-    if LAST_LAYER < layer {
-        return Err(Refusal::Layer);
-    }
+    let layer = layer_index(layer)?;
     let mut letters = [0u8; LONGEST];
-    let found = find(&Layer::of(rows, layer as usize), &mut letters)?;
+    let found = find(&Layer::of(rows, layer), &mut letters)?;
     match found {
         None => write_image(Point { col: 0, row: 0 }, &letters[..0], image),
         Some(ring) => write_image(ring.start, &letters[..ring.count], image),
@@ -155,9 +152,7 @@ pub fn restore(
     ensures { says result (arrays rows.new state.new)
         ≡ answer_of (arrays rows.old state.old) (Restore layer image.now) }
 {
-    if LAST_LAYER < layer {
-        return Err(Refusal::Layer);
-    }
+    layer_index(layer)?;
     match images::read(image) {
         None => Err(Refusal::Image),
         Some(found) => {

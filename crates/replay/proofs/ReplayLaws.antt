@@ -6,14 +6,15 @@ use native.Mathlib.Omega.{arith}
 use mathlib.Core.Path.{◌≡◌, refl, sym, ap, ◌∙◌}
 use mathlib.Core.Bool.{Bool, true, false, not, true≢false}
 use mathlib.Core.List.{List, [], ◌∷◌, ◌++◌, append_assoc}
-use lib.ListN.{length, take, drop, take-append-drop}
-use lib.Seq.{drop-drop, paste, length-paste, take-paste, drop-paste}
+use lib.ListN.{length, take, drop, get_or, take-append-drop}
+use lib.Seq.{get_or-take, drop-drop, paste, length-paste, take-paste, drop-paste}
 use borrow.Author.Tests.{not-true, not-false}
 use Rattle.chart.specs.Fields.{numbers_of}
 use Rattle.calls.specs.declared.Call.{Call}
 use Rattle.calls.specs.Replies.{Reply, reply_fields}
 use Rattle.wire.specs.Wire.{Decoded}
 use Rattle.std.specs.Prelude.{Some, None}
+use Rattle.std.specs.Simd.{first_chunks}
 use Rattle.wire.specs.Wire.{call_width, reply_width, decoded}
 use Rattle.holder_memory.specs.Layout.{Holder}
 use Rattle.holder_answers.specs.Arrays.{answer_of}
@@ -83,6 +84,22 @@ pub calls_read-bytes : (s : List ℕ) (m : ℕ) → call_width * length (calls_r
 unfolding calls_read
 calls_read-bytes s m = omega (arith, calls-few (min (length s / call_width) (m / reply_width)) s)
 
+-- ---- the calls as chunks of the script
+
+chunk_is : (m k : ℕ) (s : List ℕ) → k < m → get_or (first_chunks call_width m s) k [] ≡ take call_width (drop (call_width * k) s)
+chunk_is zero k s h = absurd (omega arith)
+chunk_is (suc m) zero s h = refl
+chunk_is (suc m) (suc k) s h =
+    let d : call_width + call_width * k ≡ call_width * suc k = omega arith in
+    chunk_is m k (drop call_width s) (omega arith)
+    ∙ ap (take call_width) (drop-drop (call_width * k) call_width s ∙ ap (λ (j : ℕ). drop j s) d)
+
+-- The bytes of call k, of the calls that are run
+pub call_at : (s : List ℕ) {cs : List (List ℕ)} {end : ℕ} (k : ℕ) → cs ≡ first_chunks call_width (length s / call_width) s
+    → end ≤ length s / call_width → k < end → get_or (take end cs) k [] ≡ take call_width (drop (call_width * k) s)
+call_at s {cs} {end} k e few h =
+    get_or-take end cs k [] h ∙ ap (λ (l : List (List ℕ)). get_or l k []) e ∙ chunk_is (length s / call_width) k s (omega (arith, few, h))
+
 -- ---- whether a call was answered
 
 unanswered : (d : Decoded) → false ≡ is_call d → d ≡ None
@@ -148,7 +165,7 @@ module _ (script buffer : List ℕ) (end : ℕ) (h : Holder) (done : ℕ) (list 
 
   module _ (i : done < end) where
     -- There is room for the reply
-    pub room : reply_width * done + reply_width ≤ length list
+    room : reply_width * done + reply_width ≤ length list
     room = omega (arith, st.numbers)
 
     -- For bytes that are a call
@@ -187,24 +204,20 @@ module _ (script buffer : List ℕ) (end : ℕ) (h : Holder) (done : ℕ) (list 
       carried g t p q = rw (p, q) underway-next
 
     -- The holder and the reply after these bytes
-    module _ (g : Holder) (b : Bool) (old reply : List ℕ) (n : ℕ) (sent : n ≡ call_width)
-        (t : Responded h g (decoded (take n s)) old reply b) where
+    module _ (g : Holder) (b : Bool) (old reply : List ℕ) (t : Responded h g (decoded (take call_width s)) old reply b) where
       abbrev d : Decoded
-      d = decoded (take n s)
-
-      d-is : d ≡ decoded (take call_width s)
-      d-is = rw sent
+      d = decoded (take call_width s)
 
       -- Not a call: the loop stops
       pub stops-at-none : not b ≡ true → Stopped
-      stops-at-none off = calls-none h (end - done) s l (sym d-is ∙ unanswered d (sym (not-true b off) ∙ t.done))
+      stops-at-none off = calls-none h (end - done) s l (unanswered d (sym (not-true b off) ∙ t.done))
 
       -- A call: the loop continues with the next holder
       by_call : (x : Call) → d ≡ Some x → Underway script buffer end g (done + 1) (paste list (reply_width * done) reply reply_width)
       unfolding next_holder reply_by
       by_call x q =
           let r : reply ≡ numbers_of (reply_fields (answer_of h x).reply) = t.replied ∙ rw q in
-          carried x (sym d-is ∙ q) g _ (t.holder ∙ rw q) (rw r)
+          carried x q g _ (t.holder ∙ rw q) (rw r)
 
       pub underway-responded : not b ≡ false → (list' : List ℕ) → list' ≡ paste list (reply_width * done) reply reply_width
           → Underway script buffer end g (done + 1) list'

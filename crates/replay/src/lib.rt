@@ -14,16 +14,15 @@ pub fn replay(script: &[u8], replies: &mut [u16]) -> usize
     ensures count { result ≡ length (calls_read script.now (length replies.old)) }
     ensures replies { replies.new ≡ replies_after script.now replies.old }
 {
-    // The whole calls of the script, if their replies fit into the buffer.
-    let end = (script.len() / BYTES).min(replies.len() / REPLY);
+    // The whole calls of the script, of which the first `end` have room for their replies.
+    let (calls, _) = script.as_chunks::<BYTES>();
+    let end = calls.len().min(replies.len() / REPLY);
     let mut letters = [0u8; LETTERS];
     let mut rows = [0u8; ROW_BYTES];
     let mut numbers = [0i16; NUMBERS];
     let mut heads = [0u16; HEADS];
     let mut reply = [0u16; REPLY];
-    for done in 0..end {
-        let at = BYTES * done;
-        let call = &script[at..at + BYTES];
+    for (done, call) in calls[..end].iter().enumerate() {
         let made = respond(
             &mut letters,
             &mut rows,

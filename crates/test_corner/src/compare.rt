@@ -4,7 +4,7 @@ ghost use Rattle.std.specs.Prelude.{◌≡◌, ◌≤◌, length, take};
 use crate::plain::Counted;
 use crate::walks::CORNERS;
 use crate::{cells, plain, sets, walks};
-use chart::{Fields, Point};
+use chart::{Point, Position, Refusal, Taken};
 
 // Two numbers for each edge. There is at most one edge from each of the 16 cells.
 const ROOM: usize = 32;
@@ -54,9 +54,11 @@ fn in_set(set: u32, col: u16, row: u16) -> bool {
 
 // A loose query finds a cell, in the 4 by 4 corner or beyond it, inside exactly if it is in the set.
 fn query_agrees(anchor: Point, edges: &[i16], set: u32, col: u16, row: u16) -> bool {
-    let fields = Fields::from(polygon::loose_query(anchor, edges, Point { col, row }));
-    let word = if in_set(set, col, row) { 1 } else { 2 };
-    fields.number == 0 && fields.word == word
+    match polygon::loose_query(anchor, edges, Point { col, row }) {
+        Ok(Position::Inside) => in_set(set, col, row),
+        Ok(Position::Outside) => !in_set(set, col, row),
+        Err(_) => false,
+    }
 }
 
 fn queries_agree(anchor: Point, edges: &[i16], set: u32) -> bool {
@@ -70,14 +72,14 @@ fn queries_agree(anchor: Point, edges: &[i16], set: u32) -> bool {
     true
 }
 
-// The reply's cell is cell k.
-fn cell_agrees(fields: Fields, k: u16) -> bool {
-    fields.col == cells::col(k) && fields.row == cells::row(k)
+// A verdict's cell is cell k.
+fn cell_agrees(cell: Point, k: u16) -> bool {
+    cell.col == cells::col(k) && cell.row == cells::row(k)
 }
 
 // A taken outline: its anchor, its edges, and loose queries with them.
-fn taken_agrees(fields: Fields, list: &[i16], set: u32) -> bool {
-    let count = fields.place as usize;
+fn taken_agrees(taken: Taken, list: &[i16], set: u32) -> bool {
+    let count = usize::from(taken.edges);
     let Some(anchor) = cells::leftmost(set) else {
         return false;
     };
@@ -85,21 +87,18 @@ fn taken_agrees(fields: Fields, list: &[i16], set: u32) -> bool {
         return false;
     }
     let edges = &list[..2 * count];
-    if !cell_agrees(fields, anchor) || !edges_agree(edges, set, anchor) {
-        return false;
-    }
-    let at = Point {
-        col: fields.col,
-        row: fields.row,
-    };
-    queries_agree(at, edges, set)
+    cell_agrees(taken.anchor, anchor)
+        && edges_agree(edges, set, anchor)
+        && queries_agree(taken.anchor, edges, set)
 }
 
-fn agrees(fields: Fields, list: &[i16], counted: Counted) -> bool {
-    match counted {
-        Counted::Convex(set) => fields.number == 0 && taken_agrees(fields, list, set),
-        Counted::Gap => fields.number == 8,
-        Counted::Dent(missing) => fields.number == 9 && cell_agrees(fields, missing),
+// The engine's verdict is what was counted.
+fn agrees(verdict: Result<Taken, Refusal>, list: &[i16], counted: Counted) -> bool {
+    match (verdict, counted) {
+        (Ok(taken), Counted::Convex(set)) => taken_agrees(taken, list, set),
+        (Err(Refusal::BackStep { .. }), Counted::Gap) => true,
+        (Err(Refusal::Dent { cell, .. }), Counted::Dent(missing)) => cell_agrees(cell, missing),
+        _ => false,
     }
 }
 
@@ -129,29 +128,44 @@ fn turn_back(letters: &[u8], back: &mut [u8]) -> usize
     letters.len().min(back.len())
 }
 
-// If the outline is drawn backward, a refusal's place counts from the other end. A taken outline's place is the count of edges.
-fn places_agree(fields: Fields, back: Fields, n: usize) -> bool {
-    if fields.number == 0 {
-        return fields.place == back.place;
+// A refusal by 8 or 9 with place 0, and its place.
+fn apart(why: Refusal) -> (Refusal, u16) {
+    match why {
+        Refusal::BackStep { piece, place } => (Refusal::BackStep { piece, place: 0 }, place),
+        Refusal::Dent {
+            piece,
+            place,
+            length,
+            cell,
+        } => {
+            (
+                Refusal::Dent {
+                    piece,
+                    place: 0,
+                    length,
+                    cell,
+                },
+                place,
+            )
+        }
+        _ => (why, 0),
     }
-    let sum = (fields.place as u64) + (back.place as u64) + 1;
-    sum == n as u64
 }
 
-// The outline drawn backward gets the same reply.
-fn twins_agree(fields: Fields, back: Fields, n: usize) -> bool {
-    fields.number == back.number
-        && fields.piece == back.piece
-        && fields.length == back.length
-        && fields.col == back.col
-        && fields.row == back.row
-        && places_agree(fields, back, n)
+// The outline drawn backward gets the same verdict, but that a refusal's place counts from the other end.
+fn twins_agree(verdict: Result<Taken, Refusal>, back: Result<Taken, Refusal>, n: usize) -> bool {
+    let (Err(why), Err(other)) = (verdict, back) else {
+        return verdict == back;
+    };
+    let (ahead, place) = apart(why);
+    let (behind, end) = apart(other);
+    ahead == behind && usize::from(place) + usize::from(end) + 1 == n
 }
 
-// The engine's reply to an outline, and whether it agrees with what was counted and with the reply to the outline drawn backward.
+// The engine's verdict on an outline, and whether it agrees with what was counted and with the verdict on the outline drawn backward.
 #[derive(Clone, Copy)]
 pub(crate) struct Answer {
-    pub(crate) number: u16,
+    pub(crate) verdict: Result<Taken, Refusal>,
     pub(crate) agrees: bool,
 }
 
@@ -165,13 +179,15 @@ pub(crate) fn run(corners: &[u16], first: usize, counted: Counted) -> Answer {
         row: corner / 5,
     };
     let mut list = [0i16; ROOM];
-    let fields = Fields::from(outline::test(start, &letters[..count], &mut list));
+    let verdict = outline::test(start, &letters[..count], &mut list);
     let mut backward = [0u8; CORNERS];
     let turned = turn_back(&letters[..count], &mut backward);
     let mut twin = [0i16; ROOM];
-    let back = Fields::from(outline::test(start, &backward[..turned], &mut twin));
+    let back = outline::test(start, &backward[..turned], &mut twin);
     Answer {
-        number: fields.number,
-        agrees: agrees(fields, &list, counted) && twins_agree(fields, back, count) && list == twin,
+        verdict,
+        agrees: agrees(verdict, &list, counted)
+            && twins_agree(verdict, back, count)
+            && list == twin,
     }
 }

@@ -8,15 +8,16 @@ mod plain;
 mod sets;
 mod walks;
 
+use chart::Refusal;
 use compare::Answer;
 use plain::Counted;
 use std::io;
-use walks::{CORNERS, OFF, Outcome, Search};
+use walks::{CORNERS, Outcome, Search};
 
 // The longest search from one corner takes 768,725 steps. A search cut short would miss walks, and the counts would show it.
 const MOST_STEPS: u64 = 1_000_000;
 
-// Counts so far: closed simple walks, outlines by the engine's reply, and those that do not agree.
+// Counts so far: closed simple walks, outlines by the engine's verdict, and those that do not agree.
 #[derive(Clone, Copy, Default)]
 struct Tally {
     walks: u64,
@@ -34,17 +35,17 @@ fn more(n: u64) -> u64 {
 impl Tally {
     fn add_answer(&mut self, answer: Answer) {
         self.outlines = more(self.outlines);
-        match answer.number {
-            0 => {
+        match answer.verdict {
+            Ok(_) => {
                 self.taken = more(self.taken);
             }
-            8 => {
+            Err(Refusal::BackStep { .. }) => {
                 self.back_steps = more(self.back_steps);
             }
-            9 => {
+            Err(Refusal::Dent { .. }) => {
                 self.dents = more(self.dents);
             }
-            _ => {}
+            Err(_) => {}
         }
         if !answer.agrees {
             self.mismatches = more(self.mismatches);
@@ -85,7 +86,7 @@ impl Tally {
 
 fn run_all() -> Tally {
     let mut t = Tally::default();
-    for start in 0..OFF {
+    for start in 0..CORNERS as u16 {
         t.add_search(start);
     }
     t

@@ -61,18 +61,25 @@ fn gap_at(set: u32, a: u16, b: u16, c: u16) -> bool {
         && sets::has(set, c)
 }
 
-// Some row or column has a gap.
-fn has_gap(set: u32) -> bool {
+// Some three cells have a property, tried in every order.
+fn some_three<F: Fn(u16, u16, u16) -> bool>(holds: F) -> bool
+    requires { F.IsAlwaysCallable holds }
+{
     for a in 0..CELLS {
         for b in 0..CELLS {
             for c in 0..CELLS {
-                if gap_at(set, a, b, c) {
+                if holds(a, b, c) {
                     return true;
                 }
             }
         }
     }
     false
+}
+
+// Some row or column has a gap.
+fn has_gap(set: u32) -> bool {
+    some_three(|a, b, c| gap_at(set, a, b, c))
 }
 
 // The column of one cell times the row of another.
@@ -116,18 +123,9 @@ fn held_by(set: u32, a: u16, b: u16, c: u16, x: u16) -> bool {
     sets::has(set, a) && sets::has(set, b) && sets::has(set, c) && in_triangle(a, b, c, x)
 }
 
-// Some three cells of the set have the cell in their triangle. Every three are tried in every order.
+// Some three cells of the set have the cell in their triangle.
 fn in_hull(set: u32, x: u16) -> bool {
-    for a in 0..CELLS {
-        for b in 0..CELLS {
-            for c in 0..CELLS {
-                if held_by(set, a, b, c, x) {
-                    return true;
-                }
-            }
-        }
-    }
-    false
+    some_three(|a, b, c| held_by(set, a, b, c, x))
 }
 
 // The hull of a set.

@@ -42,19 +42,14 @@ pub(crate) fn letter(from: u16, to: u16) -> u8 {
     }
 }
 
-// No corner: off the block.
-pub(crate) const OFF: u16 = 25;
-
-// The corner that a letter reaches.
-fn neighbour(at: u16, letter: u16) -> u16 {
-    if OFF <= at {
-        return OFF;
-    }
+// The corner that a letter reaches, if it is on the block.
+fn neighbour(at: u16, letter: u16) -> Option<u16> {
     match letter {
-        0 => { if at % 5 < 4 { at + 1 } else { OFF } }
-        1 => { if at < 20 { at + 5 } else { OFF } }
-        2 => { if 0 < at % 5 { at - 1 } else { OFF } }
-        _ => { if 5 <= at { at - 5 } else { OFF } }
+        0 if at < 25 && at % 5 < 4 => Some(at + 1),
+        1 if at < 20 => Some(at + 5),
+        2 if 0 < at % 5 => Some(at - 1),
+        3 if 5 <= at => Some(at - 5),
+        _ => None,
     }
 }
 
@@ -92,12 +87,14 @@ fn ahead(s: &mut Search, next: u16) {
 
 // A letter from the last corner: it closes the walk, leads on, or leads nowhere.
 fn follow(s: &mut Search, at: u16, letter: u16) -> Outcome {
-    let next = neighbour(at, letter);
+    let Some(next) = neighbour(at, letter) else {
+        return Outcome::Open;
+    };
     let start = s.corners[0];
     if next == start && 3 <= s.depth {
         return Outcome::Closed;
     }
-    if start < next && next < OFF && !sets::has(s.met, next) {
+    if start < next && !sets::has(s.met, next) {
         ahead(s, next);
     }
     Outcome::Open

@@ -38,12 +38,12 @@ fn answer(holder: Holder, call: &[u8], expected: &[u16]) -> Step {
 pub(crate) fn differing(script: &[u8], replies: &[u16]) -> usize
     requires { call_width * (length replies.now / reply_width) ≤ length script.now }
 {
+    let (calls, _) = script.as_chunks::<BYTES>();
+    let (replies, _) = replies.as_chunks::<NUMBERS>();
     let mut holder = holder_values::fresh();
     let mut others = 0;
-    for i in 0..replies.len() / NUMBERS {
-        let at = BYTES * i;
-        let to = NUMBERS * i;
-        let stepped = answer(holder, &script[at..at + BYTES], &replies[to..to + NUMBERS]);
+    for (call, expected) in calls.iter().zip(replies) {
+        let stepped = answer(holder, call, expected);
         if !stepped.same {
             others += 1;
         }

@@ -3,8 +3,8 @@
 
 ghost use Rattle.std.specs.Prelude.{◌≡◌, ◌≤◌, length, take};
 
-use chart::reply::NUMBERS;
-use chart::{Fields, LONGEST, MOST_NUMBERS, Point, reply};
+use chart::reply::{CROSSING, EQUAL, FIRST_WITHIN, NO_COMMON, NUMBERS, SECOND_WITHIN};
+use chart::{Fields, LONGEST, MOST_NUMBERS, Point, Position, Refusal};
 use std::io;
 
 fn write_number(rt: &impl Print, n: u16) -> io::Result<()> {
@@ -16,12 +16,11 @@ fn write_cell(rt: &impl Print, cell: Point) -> io::Result<()> {
     print!(rt; " ({col}, {row})")
 }
 
-// The first edges of a list.
-fn write_edges(rt: &impl Print, list: &[i16], count: usize) -> io::Result<()> {
-    for edge in list.chunks_exact(2).take(count) {
-        if let [dx, dy] = edge {
-            print!(rt; " ({dx}, {dy})")?;
-        }
+// The edges of a list.
+fn write_edges(rt: &impl Print, list: &[i16]) -> io::Result<()> {
+    let (edges, _) = list.as_chunks::<2>();
+    for [dx, dy] in edges {
+        print!(rt; " ({dx}, {dy})")?;
     }
     Ok(())
 }
@@ -44,12 +43,12 @@ fn write_fields(rt: &impl Print, fields: Fields) -> io::Result<()> {
 // Tests an outline and writes its line.
 fn write_test(rt: &impl Print, name: &str, start: Point, letters: &[u8]) -> io::Result<()> {
     let mut edges = [0i16; MOST_NUMBERS];
-    let fields = Fields::from(outline::test(start, letters, &mut edges));
+    let verdict = outline::test(start, letters, &mut edges);
     print!(rt; "{name}:")?;
-    write_fields(rt, fields)?;
-    if fields.number == 0 {
+    write_fields(rt, Fields::from(verdict))?;
+    if let Ok(taken) = verdict {
         print!(rt; " edges")?;
-        write_edges(rt, &edges, fields.place as usize)?;
+        write_edges(rt, &edges[..2 * usize::from(taken.edges)])?;
     }
     println!(rt)
 }
@@ -96,13 +95,12 @@ fn write_most_edges(rt: &impl Print) -> io::Result<()> {
     write_test(rt, "604 letters", Point { col: 0, row: 81 }, &letters[..n])
 }
 
-// The word of a loose query's reply, or the number of its refusal.
-fn write_word(rt: &impl Print, fields: Fields) -> io::Result<()> {
-    let word = fields.word;
-    match word {
-        1 => print!(rt; " inside"),
-        2 => print!(rt; " outside"),
-        _ => write_number(rt, fields.number),
+// The answer of a loose query, or the number of its refusal.
+fn write_position(rt: &impl Print, position: Result<Position, Refusal>) -> io::Result<()> {
+    match position {
+        Ok(Position::Inside) => print!(rt; " inside"),
+        Ok(Position::Outside) => print!(rt; " outside"),
+        Err(why) => write_number(rt, Fields::from(why).number),
     }
 }
 
@@ -114,11 +112,11 @@ fn write_query(
     edges: &[i16],
     cell: Point,
 ) -> io::Result<()> {
-    let fields = Fields::from(polygon::loose_query(anchor, edges, cell));
+    let position = polygon::loose_query(anchor, edges, cell);
     print!(rt; "{name}, cell")?;
     write_cell(rt, cell)?;
     print!(rt; ":")?;
-    write_word(rt, fields)?;
+    write_position(rt, position)?;
     println!(rt)
 }
 
@@ -137,11 +135,11 @@ fn ask_h3(rt: &impl Print, col: u16, row: u16) -> io::Result<()> {
 // The word of a comparison, or the number of its refusal and which list is refused.
 fn write_nesting(rt: &impl Print, reply: &[u16; NUMBERS]) -> io::Result<()> {
     match reply[1] {
-        11 => print!(rt; " equal"),
-        12 => print!(rt; " first within second"),
-        13 => print!(rt; " second within first"),
-        14 => print!(rt; " no common cell"),
-        15 => print!(rt; " crossing"),
+        EQUAL => print!(rt; " equal"),
+        FIRST_WITHIN => print!(rt; " first within second"),
+        SECOND_WITHIN => print!(rt; " second within first"),
+        NO_COMMON => print!(rt; " no common cell"),
+        CROSSING => print!(rt; " crossing"),
         _ => {
             write_number(rt, reply[0])?;
             write_number(rt, reply[2])
@@ -163,7 +161,7 @@ fn write_comparison<'a>(
     print!(rt; "{name}:")?;
     write_nesting(rt, &reply)?;
     print!(rt; ", edges")?;
-    write_edges(rt, inner, inner.len() / 2)?;
+    write_edges(rt, inner)?;
     println!(rt)
 }
 

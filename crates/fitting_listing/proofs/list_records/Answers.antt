@@ -1,19 +1,16 @@
 -- Each step over a whole record adds its line to the listing. The end or a fault finishes it.
 use native.Mathlib.Omega.{arith}
 use mathlib.Core.Path.{◌≡◌, sym, ap, subst, ◌∙◌}
-use Rattle.std.specs.Prelude.{Option, Result, Ok, Err}
+use Rattle.std.specs.Prelude.{Option, Result, Ok}
 use Rattle.fitting_records.specs.declared.Record.{Record}
 use Rattle.fitting_records.specs.declared.Fault.{Fault}
 use Rattle.fitting_records.specs.declared.Step.{Step}
 use Rattle.fitting_records.proofs.RecordLaws.{passed}
-use Rattle.fitting_listing.proofs.ListingLaws.{going-begins, going_end, going-wrong-mark, going-cut, going-record, letters-between}
+use Rattle.fitting_listing.proofs.ListingLaws.{going-begins, going_end, going-fault, going-record, letters-between}
 use Rattle.fitting_listing.proofs.list_records.Goals as goal
 
 ok_is : {x : Result (Option Record) Fault} {a b : Option Record} → x ≡ Ok a → a ≡ b → x ≡ Ok b
 ok_is {x} e d = subst (λ (r : Option Record). x ≡ Ok r) d e
-
-err_is : {x : Result (Option Record) Fault} {a b : Fault} → x ≡ Err a → a ≡ b → x ≡ Err b
-err_is {x} e d = subst (λ (f : Fault). x ≡ Err f) d e
 
 found_of : {s t : Step} → s ≡ t → t.found ≡ s.found
 found_of e = ap (λ (s : Step). s.found) (sym e)
@@ -30,23 +27,14 @@ shape_of-text-in-Ok-None c = c.loop-record.invariant.same
 pub returns-in-Ok-None : goal.returns-in-Ok-None
 returns-in-Ok-None c = going_end c.loop-record.invariant c.requires (found_of c.next_at-step.ensures ∙ ok_is c.in-Ok-None.is (rw c.in-Ok-None.is at c.in-Ok-None.field-0-is))
 
-pub shape_of-text-in-Err-WrongMark : goal.shape_of-text-in-Err-WrongMark
-shape_of-text-in-Err-WrongMark c = c.put_line.auto.text ∙ c.loop-record.invariant.same
+pub shape_of-text-in-Err : goal.shape_of-text-in-Err
+shape_of-text-in-Err c = c.put_line.auto.text ∙ c.loop-record.invariant.same
 
-pub returns-in-Err-WrongMark : goal.returns-in-Err-WrongMark
-returns-in-Err-WrongMark c =
-    let found = found_of c.next_at-step.ensures ∙ err_is c.in-Err-WrongMark.is (rw c.in-Err-WrongMark.is at c.in-Err-WrongMark.field-0-is) in
-    let wrote = rw c.fault.ensures at c.put_line.ensures in
-    going-wrong-mark c.loop-record.invariant c.requires found wrote
-
-pub shape_of-text-in-Err-Truncated : goal.shape_of-text-in-Err-Truncated
-shape_of-text-in-Err-Truncated c = c.put_line-in-Err-Truncated.auto.text ∙ c.loop-record.invariant.same
-
-pub returns-in-Err-Truncated : goal.returns-in-Err-Truncated
-returns-in-Err-Truncated c =
-    let found = found_of c.next_at-step.ensures ∙ err_is c.in-Err-Truncated.is (rw c.in-Err-Truncated.is at c.in-Err-Truncated.field-0-is) in
-    let wrote = rw c.fault-in-Err-Truncated.ensures at c.put_line-in-Err-Truncated.ensures in
-    going-cut c.loop-record.invariant c.requires found wrote
+pub returns-in-Err : goal.returns-in-Err
+returns-in-Err c =
+    let found = found_of c.next_at-step.ensures ∙ c.in-Err.is in
+    let wrote = rw (c.fault.ensures, c.fault_number.ensures) at c.put_line.ensures in
+    going-fault c.loop-record.invariant c.requires _ found wrote
 
 pub slice_bounds-tested-count : goal.slice_bounds-tested-count
 slice_bounds-tested-count c =

@@ -1,5 +1,5 @@
 -- The calls read are whole in the script, their replies have room, and a replay keeps the length of its buffer.
-use Rattle.std.proofs.Common.{◌≡◌, ℕ, ◌*◌, ◌≤◌, List, length, take, sym, arith}
+use Rattle.std.proofs.Common.{◌*◌, ◌≤◌, length, sym, arith}
 use lib.Seq.{length-take-le}
 use Rattle.replay.proofs.ReplayLaws.{calls_read-room, calls_read-bytes}
 use Rattle.test_holder.proofs.run.Goals as goal
